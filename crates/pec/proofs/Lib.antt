@@ -1,0 +1,4 @@
+pub mod Entries
+pub mod Xor
+pub mod Division
+pub mod Replies
