@@ -7,7 +7,7 @@ use native.Mathlib.Omega.{arith}
 use lib.Dec.{T, eqb}
 use lib.ListN.{length, getD, take, set}
 use borrow.Author.Tests.{eq-eqb, ne-eqb}
-use Rattle.refusals.specs.Refusals.{Answer, done, verdict, refused}
+use Rattle.refusals.specs.Refusals.{answer, refused}
 use Rattle.pec.specs.Code.{pecOf}
 use Rattle.pec.specs.Reply.{body, sealAnswer, sealed, verdictOf, checkAnswer}
 
@@ -34,24 +34,24 @@ module _ (s : List ℕ) where
   check-refused h = rw (ne-eqb (length s) 6 h)
 
   module _ (h : length s ≡ 6) where
-    pub seal-done : done ≡ sealAnswer s
+    pub seal-done : answer tt ≡ sealAnswer s
     seal-done = rw (eq-eqb (length s) 6 h)
 
-    pub check-wrong-first : (getD s 0 0 ≡ 0x16 → ⊥) → verdict 1 ≡ checkAnswer s
+    pub check-wrong-first : (getD s 0 0 ≡ 0x16 → ⊥) → answer 1 ≡ checkAnswer s
     unfolding verdictOf
     check-wrong-first a = rw (eq-eqb (length s) 6 h, ne-eqb (getD s 0 0) 0x16 a)
 
-    pub check-wrong-third : getD s 0 0 ≡ 0x16 → (getD s 2 0 ≡ 0x17 → ⊥) → verdict 1 ≡ checkAnswer s
+    pub check-wrong-third : getD s 0 0 ≡ 0x16 → (getD s 2 0 ≡ 0x17 → ⊥) → answer 1 ≡ checkAnswer s
     unfolding verdictOf
     check-wrong-third a b = rw (eq-eqb (length s) 6 h, eq-eqb (getD s 0 0) 0x16 a, ne-eqb (getD s 2 0) 0x17 b)
 
     module _ (a : getD s 0 0 ≡ 0x16) (b : getD s 2 0 ≡ 0x17) where
-      pub check-wrong-code : (pecOf (take 5 s) ≡ getD s 5 0 → ⊥) → verdict 2 ≡ checkAnswer s
+      pub check-wrong-code : (pecOf (take 5 s) ≡ getD s 5 0 → ⊥) → answer 2 ≡ checkAnswer s
       unfolding verdictOf
       check-wrong-code p =
           rw (eq-eqb (length s) 6 h, eq-eqb (getD s 0 0) 0x16 a, eq-eqb (getD s 2 0) 0x17 b, ne-eqb (pecOf (take 5 s)) (getD s 5 0) p)
 
-      pub check-whole : pecOf (take 5 s) ≡ getD s 5 0 → verdict 0 ≡ checkAnswer s
+      pub check-whole : pecOf (take 5 s) ≡ getD s 5 0 → answer 0 ≡ checkAnswer s
       unfolding verdictOf
       check-whole p =
           rw (eq-eqb (length s) 6 h, eq-eqb (getD s 0 0) 0x16 a, eq-eqb (getD s 2 0) 0x17 b, eq-eqb (pecOf (take 5 s)) (getD s 5 0) p)
@@ -61,7 +61,7 @@ module _ (s : List ℕ) where
     sealed-six command word = rw (eq-eqb (length s) 6 h)
 
 -- What `seal` writes `check` answers 0, for every command and word.
-pub seal-check : (s : List ℕ) → length s ≡ 6 → (command word : ℕ) → checkAnswer (sealed command word s) ≡ verdict 0
+pub seal-check : (s : List ℕ) → length s ≡ 6 → (command word : ℕ) → checkAnswer (sealed command word s) ≡ answer 0
 seal-check s h command word =
     rw (sealed-six s h command word) (sym (check-whole (body command word ++ (pecOf (body command word) ∷ [])) refl refl refl refl))
 

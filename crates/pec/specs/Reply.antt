@@ -4,7 +4,7 @@ use mathlib.Core.Bool.{cond, _&&_}
 use mathlib.Core.List.{List, [], _∷_, _++_}
 use lib.Dec.{eqb}
 use lib.ListN.{length, getD, take}
-use Rattle.refusals.specs.Refusals.{Answer, done, verdict, refused, refusal}
+use Rattle.refusals.specs.Refusals.{Answer, answer, refused, refusal}
 use Rattle.pec.specs.Code.{pecOf}
 use Rattle.pec.specs.declared.Sealed.{Sealed}
 use Rattle.pec.specs.declared.Sealed.the-variants.{Written, Unwritten}
@@ -12,15 +12,15 @@ use Rattle.pec.specs.declared.Checked.{Checked}
 use Rattle.pec.specs.declared.Checked.the-variants.{Whole, WrongAddress, WrongCode, Unchecked}
 
 -- What `seal` answers, in the paper's numbers.
-abbrev pub answerOfSeal : Sealed → Answer
-answerOfSeal Written = done
+abbrev pub answerOfSeal : Sealed → Answer (Unit {0})
+answerOfSeal Written = answer tt
 answerOfSeal (Unwritten why) = refusal why
 
--- What `check` answers, in the paper's numbers.
-abbrev pub answerOfCheck : Checked → Answer
-answerOfCheck Whole = verdict 0
-answerOfCheck WrongAddress = verdict 1
-answerOfCheck WrongCode = verdict 2
+-- What `check` answers, in the paper's numbers: the verdict, or a refusal.
+abbrev pub answerOfCheck : Checked → Answer ℕ
+answerOfCheck Whole = answer 0
+answerOfCheck WrongAddress = answer 1
+answerOfCheck WrongCode = answer 2
 answerOfCheck (Unchecked why) = refusal why
 
 -- The bytes of a reply before its code.
@@ -28,8 +28,8 @@ abbrev pub body : ℕ → ℕ → List ℕ
 body command word = 0x16 ∷ command ∷ 0x17 ∷ word % 256 ∷ word / 256 ∷ []
 
 -- Sealing: refusal 15 for a buffer that is not six bytes long.
-abbrev pub sealAnswer : List ℕ → Answer
-sealAnswer reply = cond (eqb (length reply) 6) done (refused 15 0)
+abbrev pub sealAnswer : List ℕ → Answer (Unit {0})
+sealAnswer reply = cond (eqb (length reply) 6) (answer tt) (refused 15 0)
 
 -- The buffer after sealing: the six bytes, or what it held where the call refuses.
 unfoldable pub sealed : ℕ → ℕ → List ℕ → List ℕ
@@ -41,5 +41,5 @@ verdictOf reply =
     cond (eqb (getD reply 0 0) 0x16 && eqb (getD reply 2 0) 0x17) (cond (eqb (pecOf (take 5 reply)) (getD reply 5 0)) 0 2) 1
 
 -- The check: refusal 15 for a reply that is not six bytes long.
-abbrev pub checkAnswer : List ℕ → Answer
-checkAnswer reply = cond (eqb (length reply) 6) (verdict (verdictOf reply)) (refused 15 0)
+abbrev pub checkAnswer : List ℕ → Answer ℕ
+checkAnswer reply = cond (eqb (length reply) 6) (answer (verdictOf reply)) (refused 15 0)

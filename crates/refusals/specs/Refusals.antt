@@ -41,12 +41,11 @@ placeOf InputLength = 0
 placeOf BufferLength = 0
 placeOf State = 0
 
--- What a call answers, in the paper's numbers: that it is done, a verdict, or the number and the place of a refusal.
-pub data Answer : Type 0 where
-  done : Answer
-  verdict : ℕ → Answer
-  refused : ℕ → ℕ → Answer
+-- What a call answers, in the paper's numbers: a value, or the number and the place of a refusal.
+pub data Answer (A : Type 0) : Type 0 where
+  answer : A → Answer A
+  refused : ℕ → ℕ → Answer A
 
 -- The answer of a call that refuses.
-abbrev pub refusal : Refusal → Answer
+abbrev pub refusal : {A : Type 0} → Refusal → Answer A
 refusal r = refused (numberOf r) (placeOf r)
