@@ -7,68 +7,51 @@ use Rattle.pec.proofs.Replies.{seal-refused, seal-kept, seal-done, writ
 use borrow.Author.Needs.{needs}
 use Rattle.pec.proofs.seal.Statement.{statement}
 use Rattle.pec.proofs.seal.Tie as tie
-use Rattle.pec.proofs.seal.Reads as reads
-use Rattle.pec.proofs.seal.Lts as lts
-use Rattle.pec.proofs.pec.Reads as pec-reads
 
--- src/lib.rt:35:9
 returns : tie.Need-returns
 returns c = (seal-refused (c .before .before .args .buffer .now) (c .if1 .taken), seal-kept (c .before .before .args .buffer .now) (c .if1 .taken) (c .before .before .args .command) (c .before .before .args .word))
 
--- src/lib.rt:37:5
 slice-write-buffer : tie.Need-slice-write-buffer
 slice-write-buffer c = search needs
 
--- src/lib.rt:38:5
 slice-write-buffer-2 : tie.Need-slice-write-buffer-2
 slice-write-buffer-2 c = search needs
 
--- src/lib.rt:39:5
 slice-write-buffer-3 : tie.Need-slice-write-buffer-3
 slice-write-buffer-3 c = search needs
 
--- src/lib.rt:40:16
 cast-buffer : tie.Need-cast-buffer
 cast-buffer c = search needs
 
--- src/lib.rt:40:5
 slice-write-buffer-4 : tie.Need-slice-write-buffer-4
 slice-write-buffer-4 c = search needs
 
--- src/lib.rt:41:16
 cast-buffer-2 : tie.Need-cast-buffer-2
 cast-buffer-2 c = search needs
 
--- src/lib.rt:41:5
 slice-write-buffer-5 : tie.Need-slice-write-buffer-5
 slice-write-buffer-5 c = simp length-set (omega arith)
 
--- src/lib.rt:42:20
 slice-reshare-prefix-pec : tie.Need-slice-reshare-prefix-pec
 slice-reshare-prefix-pec c = simp length-set (omega arith)
 
--- src/lib.rt:42:20
 slice-aggregate-pec : tie.Need-slice-aggregate-pec
 slice-aggregate-pec c = sym (length-take-le 5 (written (c .before .before .before .args .buffer .now) (c .before .before .before .args .command) (c .before .before .before .args .word)) (simp length-set (omega arith)))
 
--- src/lib.rt:42:9
 pec-requires : tie.Need-pec-requires
 pec-requires c κs = search needs
 
--- src/lib.rt:43:5
 slice-write-buffer-6 : tie.Need-slice-write-buffer-6
 slice-write-buffer-6 c = simp length-set (omega arith)
 
--- src/lib.rt:30:1
 same-length : tie.Need-same-length
 same-length c = search needs
 
--- src/lib.rt:30:1
 returns-2 : tie.Need-returns-2
-returns-2 c = (
-  seal-done (c .before .before .before .before .args .buffer .now) (c .before .before .if1 .left),
-  stored (c .before .before .before .before .args .buffer .now) (c .before .before .before .before .args .command) (c .before .before .before .before .args .word) (c .pec .result) (c .before .before .if1 .left) (c .pec .ensures),
-)
+returns-2 c =
+    let six = c .before .before .if1 .left in
+    let a = c .before .before .before .before .args in
+    (seal-done (a .buffer .now) six, stored (a .buffer .now) (a .command) (a .word) (c .pec .result) six (c .pec .ensures))
 
 pub seal-spec : {M : Type 1} → statement M
 seal-spec =

@@ -1,0 +1,34 @@
+use mathlib.Core.Path.{sym}
+use borrow.Author.Needs.{needs}
+use Rattle.bytes_le.proofs.PastEnd.{u16-past}
+use Rattle.bytes_le.proofs.u16_at.Statement.{statement}
+use Rattle.bytes_le.proofs.u16_at.Tie as tie
+
+returns : tie.Need-returns
+returns c = sym (u16-past (c .before .before .args .s .now) _ (c .if1 .taken))
+
+shared-slice-read-join16 : tie.Need-shared-slice-read-join16
+shared-slice-read-join16 c = search needs
+
+add-byte-at : tie.Need-add-byte-at
+add-byte-at c = search needs
+
+byte-at-requires : tie.Need-byte-at-requires
+byte-at-requires c κs = search needs
+
+join16-requires : tie.Need-join16-requires
+join16-requires c κs = search needs
+
+returns-2 : tie.Need-returns-2
+returns-2 c = search needs
+
+pub u16-at-spec : {M : Type 1} → statement M
+u16-at-spec =
+    tie.close
+    (tie.spec
+    returns
+    shared-slice-read-join16
+    add-byte-at
+    byte-at-requires
+    join16-requires
+    returns-2)

@@ -1,0 +1,23 @@
+-- Paper 01, 'The trace': little-endian numbers in a list of bytes, signed ones in two's complement. Past the end a byte reads 0.
+use Prim.Native.Nat.{ℕ, _+_, _*_}
+use mathlib.Core.List.{List}
+use lib.ListN.{getD}
+use lib.IntN.{ℤ}
+use mir.Syntax.{w16, w32}
+use mir.Val.{toZ}
+
+-- The u16 whose low byte is at a place.
+abbrev pub u16At : List ℕ → ℕ → ℕ
+u16At s at = getD s at 0 + getD s (at + 1) 0 * 256
+
+-- The u32 whose lowest byte is at a place.
+abbrev pub u32At : List ℕ → ℕ → ℕ
+u32At s at = u16At s at + u16At s (at + 2) * 65536
+
+-- The i16 whose low byte is at a place.
+abbrev pub i16At : List ℕ → ℕ → ℤ
+i16At s at = toZ w16 (u16At s at)
+
+-- The i32 whose lowest byte is at a place.
+abbrev pub i32At : List ℕ → ℕ → ℤ
+i32At s at = toZ w32 (u32At s at)

@@ -1,0 +1,78 @@
+// Little-endian numbers in a slice of bytes. Past the end a byte reads 0.
+ghost use mathlib.Core.Path.{_≡_};
+ghost use Prim.Native.Nat.{_+_, _*_};
+ghost use lib.ListN.{getD};
+ghost use mir.Syntax.{w16, w32};
+ghost use mir.Val.{toZ};
+ghost use Rattle.bytes_le.specs.Numbers.{u16At, u32At, i16At, i32At};
+
+fn byte_at(s: &[u8], at: usize) -> u8
+    ensures { λ r. ⌜ r ≡ getD (now (s .entry)) at 0 ⌝ }
+{
+    if at < s.len() { s[at] } else { 0 }
+}
+
+fn join16(low: u8, high: u8) -> u16
+    ensures { λ r. ⌜ r ≡ low + high * 256 ⌝ }
+{
+    (low as u16) + (high as u16) * 256
+}
+
+fn join32(low: u16, high: u16) -> u32
+    ensures { λ r. ⌜ r ≡ low + high * 65536 ⌝ }
+{
+    (low as u32) + (high as u32) * 65536
+}
+
+pub fn signed16(v: u16) -> i16
+    ensures { λ r. ⌜ r ≡ toZ w16 v ⌝ }
+{
+    if v < 32768 {
+        v as i16
+    } else {
+        !((65535 - v) as i16)
+    }
+}
+
+fn signed32(v: u32) -> i32
+    ensures { λ r. ⌜ r ≡ toZ w32 v ⌝ }
+{
+    if v < 2147483648 {
+        v as i32
+    } else {
+        !((4294967295 - v) as i32)
+    }
+}
+
+pub fn u16_at(s: &[u8], at: usize) -> u16
+    ensures { λ r. ⌜ r ≡ u16At (now (s .entry)) at ⌝ }
+{
+    if s.len() <= at {
+        return 0;
+    }
+    join16(s[at], byte_at(s, at + 1))
+}
+
+pub fn u32_at(s: &[u8], at: usize) -> u32
+    ensures { λ r. ⌜ r ≡ u32At (now (s .entry)) at ⌝ }
+{
+    if s.len() <= at {
+        return 0;
+    }
+    if s.len() - at <= 2 {
+        return join32(u16_at(s, at), 0);
+    }
+    join32(u16_at(s, at), u16_at(s, at + 2))
+}
+
+pub fn i16_at(s: &[u8], at: usize) -> i16
+    ensures { λ r. ⌜ r ≡ i16At (now (s .entry)) at ⌝ }
+{
+    signed16(u16_at(s, at))
+}
+
+pub fn i32_at(s: &[u8], at: usize) -> i32
+    ensures { λ r. ⌜ r ≡ i32At (now (s .entry)) at ⌝ }
+{
+    signed32(u32_at(s, at))
+}

@@ -1,0 +1,156 @@
+-- What a three-way flag says of all fillings, at every tick, and what the first ticks say.
+use Prim.Native.Nat.{ℕ, zero, suc, _+_, _≤_, _<_}
+use native.Mathlib.Omega.{arith}
+use native.Mathlib.Nat.{eq-or-lt-of-le}
+use mathlib.Core.Path.{_≡_, refl, sym, ap, ap₂, subst}
+use mathlib.Core.Logic.{_↔_, _⊎_, inl, inr, ⊎-elim}
+use mathlib.Core.Bool.{Bool, true, false, not, cond, _&&_}
+use lib.Dec.{T, T-not, not-T}
+use Rattle.rules.specs.Samples.{Sample}
+use Rattle.rules.specs.Evaluation.{status}
+use Rattle.flags.specs.declared.Flag.{Flag}
+use Rattle.flags.specs.declared.Flag.the-variants.{Clear, Held, Unknown}
+use Rattle.flags.specs.Flags.{flagOf}
+use Rattle.fillings.specs.Fillings.{Rule, Sound, last, Shown, Filling, after}
+use Rattle.fillings.specs.PossibleStates.{someBelow, has, possible}
+use Rattle.fillings.specs.Flags.{flag, statusFlag, notClear, isHeld, firstFrom, firstPossible, firstHeld}
+use Rattle.fillings.specs.Demand3.{Always, Sometimes, First}
+use Rattle.fillings.proofs.Bools.{and-left, and-right, both, is-true, refuted, some-intro, some-elim}
+use Rattle.fillings.proofs.Witness.{blank, blank-carried}
+use Rattle.fillings.proofs.Exact.{after-le, sound, complete}
+
+held-none : (a b : Bool) → flagOf a b ≡ Held → b ≡ false
+held-none true true e = let z : _≡_ {A = ℕ} 0 1 = cc in absurd (omega arith)
+held-none true false e = refl
+held-none false b e = let z : _≡_ {A = ℕ} 0 1 = cc in absurd (omega arith)
+
+clear-none : (a b : Bool) → flagOf a b ≡ Clear → a ≡ false
+clear-none true true e = let z : _≡_ {A = ℕ} 0 1 = cc in absurd (omega arith)
+clear-none true false e = let z : _≡_ {A = ℕ} 0 1 = cc in absurd (omega arith)
+clear-none false b e = refl
+
+unknown-both : (a b : Bool) → flagOf a b ≡ Unknown → T a × T b
+unknown-both true true e = (tt, tt)
+unknown-both true false e = let z : _≡_ {A = ℕ} 0 1 = cc in absurd (omega arith)
+unknown-both false b e = let z : _≡_ {A = ℕ} 0 1 = cc in absurd (omega arith)
+
+not-clear-meets : (a b : Bool) → T (notClear (flagOf a b)) → T a
+not-clear-meets true b t = tt
+not-clear-meets false b t = t
+
+meets-not-clear : (a b : Bool) → T a → T (notClear (flagOf a b))
+meets-not-clear true true t = tt
+meets-not-clear true false t = tt
+meets-not-clear false b t = t
+
+is-held-held : (f : Flag) → T (isHeld f) → f ≡ Held
+is-held-held Clear t = absurd t
+is-held-held Held t = refl
+is-held-held Unknown t = absurd t
+
+unless-not : (b : Bool) → (T (not b) → ⊥) → T b
+unless-not true f = tt
+unless-not false f = f tt
+
+module _ (r : Rule) (ok : Sound r) (trace : ℕ → Shown) (k : ℕ) where
+  -- the set meets a test exactly if the test holds under some filling
+  abbrev meets : (ℕ → Bool) → Bool
+  meets test = someBelow (suc (last r)) (λ s. has (possible r trace k) s && test s)
+
+  meets-some : (test : ℕ → Bool) → T (meets test) → Sometimes r trace k test
+  meets-some test t =
+      let (s, h, u) = some-elim (suc (last r)) (λ i. has (possible r trace k) i && test i) t in
+      let (f, fills, e) = complete r ok trace k s (and-left (has (possible r trace k) s) (test s) u) in
+      (f, fills, subst (λ i. T (test i)) (sym e) (and-right (has (possible r trace k) s) (test s) u))
+
+  some-meets : (test : ℕ → Bool) (f : ℕ → Sample) → T (test (after r trace f k)) → T (meets test)
+  some-meets test f t =
+      let low = after-le r trace f k in
+      some-intro (suc (last r)) (λ i. has (possible r trace k) i && test i) (after r trace f k) (omega arith)
+      (both (has (possible r trace k) (after r trace f k)) (test (after r trace f k)) (sound r trace f k) t)
+
+  -- some filling there is
+  a-filling : Filling (r .cells) trace (λ t. blank (r .cells))
+  a-filling t u = blank-carried (r .cells)
+
+  -- a flag reads held exactly if its test holds under every filling
+  pub held-exactly : (test : ℕ → Bool) → (flag (last r) test (possible r trace k) ≡ Held) ↔ Always r trace k test
+  unfolding flag
+  held-exactly test = (
+    (λ e f fills. unless-not (test (after r trace f k))
+        (λ t. subst T (held-none (meets test) (meets (λ s. not (test s))) e) (some-meets (λ s. not (test s)) f t))),
+    (λ all. ap₂ flagOf (is-true (meets test) (some-meets test (λ t. blank (r .cells)) (all (λ t. blank (r .cells)) a-filling)))
+        (refuted (meets (λ s. not (test s))) (λ t. let (f, fills, u) = meets-some (λ s. not (test s)) t in
+        T-not (test (after r trace f k)) u (all f fills)))),
+  )
+
+  -- clear exactly if it holds under none
+  pub clear-exactly : (test : ℕ → Bool) → (flag (last r) test (possible r trace k) ≡ Clear) ↔ Always r trace k (λ s. not (test s))
+  unfolding flag
+  clear-exactly test = (
+    (λ e f fills. not-T (test (after r trace f k)) (λ t. subst T (clear-none (meets test) (meets (λ s. not (test s))) e) (some-meets test f t))),
+    (λ all. ap (λ b. flagOf b (meets (λ s. not (test s)))) (refuted (meets test) (λ t. let (f, fills, u) = meets-some test t in
+        T-not (test (after r trace f k)) (all f fills) u))),
+  )
+
+  -- unknown exactly if it holds under one and not under another
+  pub unknown-exactly : (test : ℕ → Bool)
+      → (flag (last r) test (possible r trace k) ≡ Unknown) ↔ (Sometimes r trace k test × Sometimes r trace k (λ s. not (test s)))
+  unfolding flag
+  unknown-exactly test = (
+    (λ e. let (a, b) = unknown-both (meets test) (meets (λ s. not (test s))) e in (meets-some test a, meets-some (λ s. not (test s)) b)),
+    (λ w. ap₂ flagOf (is-true (meets test) (some-meets test (w .0 .0) (w .0 .2)))
+        (is-true (meets (λ s. not (test s))) (some-meets (λ s. not (test s)) (w .1 .0) (w .1 .2)))),
+  )
+
+  -- the tests behind the first ticks
+  not-clear-exactly : (test : ℕ → Bool) → T (notClear (flag (last r) test (possible r trace k))) ↔ Sometimes r trace k test
+  unfolding flag
+  not-clear-exactly test = (
+    (λ t. meets-some test (not-clear-meets (meets test) (meets (λ s. not (test s))) t)),
+    (λ w. meets-not-clear (meets test) (meets (λ s. not (test s))) (some-meets test (w .0) (w .2))),
+  )
+
+  is-held-exactly : (test : ℕ → Bool) → T (isHeld (flag (last r) test (possible r trace k))) ↔ Always r trace k test
+  is-held-exactly test = (
+    (λ t. held-exactly test .0 (is-held-held (flag (last r) test (possible r trace k)) t)),
+    (λ all. subst (λ b. T (isHeld b)) (sym (held-exactly test .1 all)) tt),
+  )
+
+-- v is the first of the n ticks from i on with a property, or there is none and v is 4,294,967,295
+abbrev Found : ℕ → ℕ → (ℕ → Type 0) → ℕ → Type 0
+Found i n P v =
+    ((i ≤ v) × (v < i + n) × P v × ((u : ℕ) → i ≤ u → u < v → ¬ P u))
+    ⊎ ((v ≡ 0xFFFFFFFF) × ((u : ℕ) → i ≤ u → u < i + n → ¬ P u))
+
+first-found : (i n : ℕ) (test : ℕ → Bool) → Found i n (λ t. T (test t)) (firstFrom i n test)
+unfolding firstFrom
+first-found i zero test = inr (refl, λ u h l t. omega arith)
+first-found i (suc n) test = go (test i) refl (firstFrom (suc i) n test) (first-found (suc i) n test)
+  where
+    past : test i ≡ false → (u : ℕ) → i ≤ u → (suc i ≤ u → ¬ T (test u)) → ¬ T (test u)
+    past e u h k t = ⊎-elim (λ z. subst (λ b. T b) e (subst (λ j. T (test j)) (sym z) t)) (λ l. k l t) (eq-or-lt-of-le h)
+
+    go : (b : Bool) → test i ≡ b → (v : ℕ) → Found (suc i) n (λ t. T (test t)) v → Found i (suc n) (λ t. T (test t)) (cond b i v)
+    go true e v ih = inl (omega arith, omega arith, subst T (sym e) tt, λ u h l. absurd (omega arith))
+    go false e v (inl (a, b, c, d)) = inl (omega arith, omega arith, c, λ u h l. past e u h (λ k. d u k l))
+    go false e v (inr (a, b)) = inr (a, λ u h l. past e u h (λ k. b u k (omega arith)))
+
+first-of : (n : ℕ) (test : ℕ → Bool) (P : ℕ → Type 0) → ((t : ℕ) → T (test t) ↔ P t) → First n P (firstFrom 0 n test)
+first-of n test P iff = go (first-found 0 n test)
+  where
+    go : Found 0 n (λ t. T (test t)) (firstFrom 0 n test) → First n P (firstFrom 0 n test)
+    go (inl (a, b, c, d)) = inl (omega arith, iff (firstFrom 0 n test) .0 c, λ u l p. d u (omega arith) l (iff u .1 p))
+    go (inr (a, b)) = inr (a, λ u l p. b u (omega arith) (omega arith) (iff u .1 p))
+
+-- The report's two first ticks, over the n ticks of a trace.
+module _ (r : Rule) (ok : Sound r) (trace : ℕ → Shown) (n : ℕ) where
+  pub first-possible-right : First n (λ t. Sometimes r trace (suc t) (status (last r))) (firstPossible r trace n)
+  first-possible-right =
+      first-of n (λ t. notClear (statusFlag r trace (suc t))) (λ t. Sometimes r trace (suc t) (status (last r)))
+      (λ t. not-clear-exactly r ok trace (suc t) (status (last r)))
+
+  pub first-held-right : First n (λ t. Always r trace (suc t) (status (last r))) (firstHeld r trace n)
+  first-held-right =
+      first-of n (λ t. isHeld (statusFlag r trace (suc t))) (λ t. Always r trace (suc t) (status (last r)))
+      (λ t. is-held-exactly r ok trace (suc t) (status (last r)))

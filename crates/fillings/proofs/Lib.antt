@@ -1,0 +1,15 @@
+pub mod Bools
+pub mod Integers
+pub mod Next
+pub mod Witness
+pub mod Reach
+pub mod Exact
+pub mod Flags
+pub mod Sure
+pub mod Demand3
+pub mod Outputs
+pub mod Still
+pub mod Evaluations
+pub mod Local
+pub mod Charge
+pub mod Marked

@@ -1,0 +1,11 @@
+-- Paper 01's fourteen marked cases come out of the definitions.
+use mathlib.Core.Path.{_≡_, refl}
+use Rattle.rules.specs.Samples.{readingsOf}
+use Rattle.rules.specs.Quantities.{value, qualified}
+use Rattle.rules.specs.Evaluation.{trips, clears}
+use Rattle.fillings.specs.PossibleStates.{moves, leads, next, possible}
+use Rattle.fillings.specs.Marked.{computedCases, markedCases}
+
+pub marked-cases : computedCases ≡ markedCases
+unfolding readingsOf value qualified trips clears moves leads next possible
+marked-cases = refl

@@ -1,0 +1,47 @@
+-- Paper 01, 'Three-way outputs': alert and status as flags over the possible states, and the report's first ticks.
+use Prim.Native.Nat.{ℕ, zero, suc}
+use mathlib.Core.Bool.{Bool, true, false, not, cond, _&&_}
+use mathlib.Core.List.{List}
+use Rattle.flags.specs.declared.Flag.{Flag}
+use Rattle.flags.specs.declared.Flag.the-variants.{Clear, Held, Unknown}
+use Rattle.flags.specs.Flags.{flagOf}
+use Rattle.rules.specs.Evaluation.{alert, status}
+use Rattle.fillings.specs.Fillings.{Rule, last, Shown}
+use Rattle.fillings.specs.PossibleStates.{someBelow, has, possible}
+
+-- The flag of a property of states over a set of the states 0 to m.
+unfoldable pub flag : ℕ → (ℕ → Bool) → List Bool → Flag
+flag m test p = flagOf (someBelow (suc m) (λ s. has p s && test s)) (someBelow (suc m) (λ s. has p s && not (test s)))
+
+-- Alert once the first k ticks have passed.
+abbrev pub alertFlag : Rule → (ℕ → Shown) → ℕ → Flag
+alertFlag r trace k = flag (last r) alert (possible r trace k)
+
+-- Status once the first k ticks have passed.
+abbrev pub statusFlag : Rule → (ℕ → Shown) → ℕ → Flag
+statusFlag r trace k = flag (last r) (status (last r)) (possible r trace k)
+
+-- Held or unknown.
+abbrev pub notClear : Flag → Bool
+notClear Clear = false
+notClear Held = true
+notClear Unknown = true
+
+-- Held.
+abbrev pub isHeld : Flag → Bool
+isHeld Clear = false
+isHeld Held = true
+isHeld Unknown = false
+
+-- The first of n ticks from i on at which a test holds, and FFFFFFFFh for none.
+unfoldable pub firstFrom : ℕ → ℕ → (ℕ → Bool) → ℕ
+firstFrom i zero test = 0xFFFFFFFF
+firstFrom i (suc n) test = cond (test i) i (firstFrom (suc i) n test)
+
+-- The first of n ticks at which status is held or unknown.
+abbrev pub firstPossible : Rule → (ℕ → Shown) → ℕ → ℕ
+firstPossible r trace n = firstFrom 0 n (λ t. notClear (statusFlag r trace (suc t)))
+
+-- The first of n ticks at which status is held.
+abbrev pub firstHeld : Rule → (ℕ → Shown) → ℕ → ℕ
+firstHeld r trace n = firstFrom 0 n (λ t. isHeld (statusFlag r trace (suc t)))

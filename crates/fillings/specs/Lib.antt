@@ -1,0 +1,7 @@
+pub mod Fillings
+pub mod PossibleStates
+pub mod Flags
+pub mod Outputs
+pub mod Charge
+pub mod Demand3
+pub mod Marked

@@ -1,0 +1,5 @@
+pub mod Samples
+pub mod Table
+pub mod Quantities
+pub mod Limits
+pub mod Evaluation

@@ -1,0 +1,122 @@
+// One evaluation of a rule.
+ghost use mathlib.Core.Path.{_≡_};
+ghost use mathlib.Core.Bool.{_&&_};
+ghost use Prim.Native.Nat.{_-_};
+ghost use lib.IntN.{pos, negℤ};
+ghost use lib.Signed.{ltZ};
+ghost use Rattle.rules.specs.Quantities.{value, qualified};
+ghost use Rattle.rules.specs.Evaluation.{beyond, opposite, trips, clears, top, evaluated};
+use crate::Found;
+use crate::Quantity;
+use crate::Readings;
+use crate::Row;
+use crate::Setting;
+use crate::Side;
+
+fn difference(highest: u16, lowest: u16) -> u16
+    ensures { λ d. ⌜ d ≡ highest - lowest ⌝ }
+{
+    if highest < lowest {
+        0
+    } else {
+        highest - lowest
+    }
+}
+
+fn value_of(quantity: Quantity, r: Readings) -> i64
+    ensures { λ v. ⌜ v ≡ value quantity r ⌝ }
+{
+    match quantity {
+        Quantity::HighestCell => r.highest_cell as i64,
+        Quantity::LowestCell => r.lowest_cell as i64,
+        Quantity::SumOfCells => r.sum_of_cells as i64,
+        Quantity::Current => r.current as i64,
+        Quantity::HighestTempCharging => r.highest_temp as i64,
+        Quantity::HighestTempDischarging => r.highest_temp as i64,
+        Quantity::Board => r.board as i64,
+        Quantity::LowestTempDischarging => r.lowest_temp as i64,
+        Quantity::CellDifference => difference(r.highest_cell, r.lowest_cell) as i64,
+    }
+}
+
+fn charges(idle: u16, current: i16) -> bool
+    ensures { λ b. ⌜ b ≡ ltZ (pos idle) current ⌝ }
+{
+    (current as i32) > (idle as i32)
+}
+
+fn discharges(idle: u16, current: i16) -> bool
+    ensures { λ b. ⌜ b ≡ ltZ current (negℤ (pos idle)) ⌝ }
+{
+    (current as i32) < -(idle as i32)
+}
+
+fn qualifies(idle: u16, quantity: Quantity, r: Readings) -> bool
+    ensures { λ b. ⌜ b ≡ qualified idle quantity r ⌝ }
+{
+    match quantity {
+        Quantity::HighestCell => true,
+        Quantity::LowestCell => true,
+        Quantity::SumOfCells => true,
+        Quantity::Current => true,
+        Quantity::HighestTempCharging => charges(idle, r.current),
+        Quantity::HighestTempDischarging => discharges(idle, r.current),
+        Quantity::Board => true,
+        Quantity::LowestTempDischarging => discharges(idle, r.current),
+        Quantity::CellDifference => true,
+    }
+}
+
+fn is_beyond(side: Side, v: i64, limit: i64) -> bool
+    ensures { λ b. ⌜ b ≡ beyond side v limit ⌝ }
+{
+    match side {
+        Side::High => v > limit,
+        Side::Low => v < limit,
+    }
+}
+
+fn is_before(side: Side, v: i64, limit: i64) -> bool
+    ensures { λ b. ⌜ b ≡ beyond (opposite side) v limit ⌝ }
+{
+    match side {
+        Side::High => v < limit,
+        Side::Low => v > limit,
+    }
+}
+
+pub fn and(a: bool, b: bool) -> bool
+    ensures { λ r. ⌜ r ≡ (a && b) ⌝ }
+{
+    if a { b } else { false }
+}
+
+// What an evaluation of a rule finds at a sample.
+pub fn evaluate(row: Row, idle: u16, setting: Setting, r: Readings) -> Found
+    ensures { λ f. ⌜ f ≡ record { trips = trips idle row setting r; clears = clears row setting r } ⌝ }
+{
+    let quantity = row.quantity;
+    let side = row.side;
+    let v = value_of(quantity, r);
+    let met = is_beyond(side, v, setting.threshold as i64);
+    let back = is_before(side, v, setting.recovery as i64);
+    let counts = qualifies(idle, quantity, r);
+    Found {
+        trips: and(counts, met),
+        clears: and(row.recovers, back),
+    }
+}
+
+// Whether a rule is evaluated at a tick.
+pub fn evaluated_at(row: Row, tick: u32) -> bool
+    ensures { λ b. ⌜ b ≡ evaluated row tick ⌝ }
+{
+    if row.even { tick % 2 == 0 } else { true }
+}
+
+// The state at which the status of a rule of this time is active.
+pub fn top_of(time: u8) -> usize
+    ensures { λ m. ⌜ m ≡ top time ⌝ }
+{
+    time as usize
+}

@@ -1,0 +1,13 @@
+pub mod Bits
+pub mod FiveWords
+pub mod Packing
+pub mod Moving
+pub mod RuleWords
+pub mod EachRule
+pub mod ManyUnseen
+pub mod SetFlags
+pub mod Tops
+pub mod RuleSteps
+pub mod RuleFlagLaws
+pub mod OffRules
+pub mod Tracking

@@ -1,0 +1,132 @@
+-- What a seen tick and unseen ticks make of one rule, as code computes it.
+use Prim.Native.Nat.{ℕ, zero, suc, _+_, _≤_, _<_}
+use mathlib.Core.Path.{_≡_, refl, ap, ap₂, sym, _∙_}
+use mathlib.Core.List.{List, [], _∷_}
+use mathlib.Core.Bool.{Bool, true, false, cond, _&&_, and-false}
+use native.Mathlib.Omega.{arith}
+use lib.Dec.{ltb, eqb}
+use lib.ListN.{length, getD}
+use borrow.Author.Tests.{lt-ltb, le-ltb, eq-eqb, ne-eqb}
+use Rattle.rules.specs.declared.Row.{Row}
+use Rattle.rules.specs.declared.Setting.{Setting}
+use Rattle.rules.specs.declared.Readings.{Readings}
+use Rattle.rules.specs.declared.Found.{Found}
+use Rattle.rules.specs.Table.{rows, rowAt}
+use Rattle.rules.specs.Evaluation.{trips, clears, top, evaluated}
+use Rattle.fillings.specs.PossibleStates.{found, next, unseenTimes}
+use Rattle.fillings.specs.Demand3.{evaluations}
+use Rattle.states.specs.Records.{statesOf, wordsOf, ruleWords, recordWith}
+use Rattle.states.proofs.EachRule.{Moving, moving-read, moving-next, moving-end}
+use Rattle.states.specs.Steps.{settingOf, movesAt, seenWords, afterSeen, evaluationsOf, movesBetween, unseenWords, afterUnseen}
+
+pub positive : (t : ℕ) → (t ≡ 0 → ⊥) → 0 < t
+positive zero n = absurd (n refl)
+positive (suc t) n = omega arith
+
+-- A rule that is switched off, or not evaluated, does not move; any other does.
+pub off-stays : (t : ℕ) (b : Bool) → t ≡ 0 → (ltb 0 t && b) ≡ false
+off-stays t b e = ap (λ (x : ℕ). ltb 0 x && b) e
+
+pub idle-stays : (t : ℕ) (b : Bool) → b ≡ false → (ltb 0 t && b) ≡ false
+idle-stays t b e = ap (λ (x : Bool). ltb 0 t && x) e ∙ and-false (ltb 0 t)
+
+pub on-moves : (t : ℕ) (b : Bool) → (t ≡ 0 → ⊥) → b ≡ true → (ltb 0 t && b) ≡ true
+on-moves t b n e = ap₂ _&&_ (lt-ltb 0 t (positive t n)) e
+
+pub evaluated-here : (i tick : ℕ) (row : Row) {b v : Bool} → row ≡ rowAt i → b ≡ evaluated row tick → b ≡ v → evaluated (rowAt i) tick ≡ v
+evaluated-here i tick row er eb e = sym (ap (λ (x : Row). evaluated x tick) er) ∙ sym eb ∙ e
+
+pub seen-words : (idle : ℕ) (r : Readings) (s : Setting) (i : ℕ) (ws : List ℕ) (row : Row) (f : Found) (m : ℕ) → row ≡ rowAt i
+    → f ≡ record { trips = trips idle row s r; clears = clears row s r } → m ≡ top (s .time)
+    → wordsOf (next m (found (f .trips) (f .clears)) (statesOf (ruleWords ws i) m)) ≡ seenWords idle r s i ws
+seen-words idle r s i ws row f m er ef em =
+    ap (λ (x : ℕ). wordsOf (next x (found (f .trips) (f .clears)) (statesOf (ruleWords ws i) x))) em
+    ∙ ap (λ (x : Found). wordsOf (next (top (s .time)) (found (x .trips) (x .clears)) (statesOf (ruleWords ws i) (top (s .time))))) ef
+    ∙ ap (λ (x : Row). wordsOf (next (top (s .time)) (found (trips idle x s r) (clears x s r)) (statesOf (ruleWords ws i) (top (s .time))))) er
+
+pub seen-read : (idle : ℕ) (r : Readings) (s : Setting) (i : ℕ) (ws vs : List ℕ) → ruleWords ws i ≡ ruleWords vs i → seenWords idle r s i ws ≡ seenWords idle r s i vs
+seen-read idle r s i ws vs e =
+    ap (λ (x : List ℕ). wordsOf (next (top (s .time)) (found (trips idle (rowAt i) s r) (clears (rowAt i) s r)) (statesOf x (top (s .time))))) e
+
+between : (i first last n : ℕ) (row : Row) → row ≡ rowAt i → n ≡ evaluations row first (suc last) → evaluationsOf first last i ≡ n
+between i first last n row er en = sym (en ∙ ap (λ (x : Row). evaluations x first (suc last)) er)
+
+pub none-between : (i first last : ℕ) (row : Row) {n : ℕ} → row ≡ rowAt i → n ≡ evaluations row first (suc last) → n ≡ 0 → ltb 0 (evaluationsOf first last i) ≡ false
+none-between i first last row {n} er en z = ap (ltb 0) (between i first last n row er en ∙ z)
+
+pub some-between : (i first last : ℕ) (row : Row) {n : ℕ} → row ≡ rowAt i → n ≡ evaluations row first (suc last) → (n ≡ 0 → ⊥) → ltb 0 (evaluationsOf first last i) ≡ true
+some-between i first last row {n} er en z = ap (ltb 0) (between i first last n row er en) ∙ lt-ltb 0 n (positive n z)
+
+pub unseen-words : (first last : ℕ) (s : Setting) (i : ℕ) (ws w v : List ℕ) (row : Row) (n m : ℕ) → row ≡ rowAt i
+    → n ≡ evaluations row first (suc last) → m ≡ top (s .time) → w ≡ ruleWords ws i → v ≡ wordsOf (unseenTimes n m (row .recovers) (statesOf w m))
+    → v ≡ unseenWords first last s i ws
+unseen-words first last s i ws w v row n m er en em ew e =
+    e
+    ∙ ap₂ (λ (x y : ℕ). wordsOf (unseenTimes x y (row .recovers) (statesOf w y))) en em
+    ∙ ap (λ (x : List ℕ). wordsOf (unseenTimes (evaluations row first (suc last)) (top (s .time)) (row .recovers) (statesOf x (top (s .time))))) ew
+    ∙ ap (λ (x : Row). wordsOf (unseenTimes (evaluations x first (suc last)) (top (s .time)) (x .recovers) (statesOf (ruleWords ws i) (top (s .time))))) er
+
+pub unseen-read : (first last : ℕ) (s : Setting) (i : ℕ) (ws vs : List ℕ) → ruleWords ws i ≡ ruleWords vs i → unseenWords first last s i ws ≡ unseenWords first last s i vs
+unseen-read first last s i ws vs e =
+    ap (λ (x : List ℕ). wordsOf (unseenTimes (evaluationsOf first last i) (top (s .time)) (rowAt i .recovers) (statesOf x (top (s .time))))) e
+
+-- The loop over the rules at a seen tick.
+module _ (ss : List Setting) (idle tick : ℕ) (r : Readings) (ws₀ : List ℕ) where
+  abbrev pub Seeing : List ℕ → ℕ → Type 0
+  Seeing ws i = Moving (λ j. movesAt tick (settingOf ss j) j) (λ j. seenWords idle r (settingOf ss j) j ws₀) ws₀ ws i
+
+  pub seeing-next : (ws out : List ℕ) (i : ℕ) → Seeing ws i → i < 16
+      → out ≡ recordWith (λ j. eqb j i && movesAt tick (settingOf ss i) i) (λ j. seenWords idle r (settingOf ss i) i ws) ws → Seeing out (i + 1)
+  seeing-next ws out i g h o =
+      moving-next (λ j. movesAt tick (settingOf ss j) j) (λ j. seenWords idle r (settingOf ss j) j ws₀) ws₀ ws out (seenWords idle r (settingOf ss i) i ws) i g h o
+      (seen-read idle r (settingOf ss i) i ws ws₀ (moving-read (λ j. movesAt tick (settingOf ss j) j) (λ j. seenWords idle r (settingOf ss j) j ws₀) ws₀ ws i g h))
+
+  pub seen-done : (out : List ℕ) → length ws₀ ≡ 80
+      → out ≡ recordWith (λ i. movesAt tick (settingOf ss i) i) (λ i. seenWords idle r (settingOf ss i) i ws₀) ws₀ → out ≡ afterSeen ss idle tick r ws₀
+  unfolding afterSeen
+  seen-done out l e =
+      e ∙ sym (ap (λ (b : Bool). cond b (recordWith (λ i. movesAt tick (settingOf ss i) i) (λ i. seenWords idle r (settingOf ss i) i ws₀) ws₀) ws₀) (eq-eqb (length ws₀) 80 l))
+
+  pub seeing-end : (ws : List ℕ) (i : ℕ) → Seeing ws i → 16 ≤ i → ws ≡ afterSeen ss idle tick r ws₀
+  seeing-end ws i g h =
+      seen-done ws (g .long) (moving-end (λ j. movesAt tick (settingOf ss j) j) (λ j. seenWords idle r (settingOf ss j) j ws₀) ws₀ ws i g h)
+
+  pub seen-kept : (length ws₀ ≡ 80 → ⊥) → ws₀ ≡ afterSeen ss idle tick r ws₀
+  unfolding afterSeen
+  seen-kept n =
+      sym (ap (λ (b : Bool). cond b (recordWith (λ i. movesAt tick (settingOf ss i) i) (λ i. seenWords idle r (settingOf ss i) i ws₀) ws₀) ws₀) (ne-eqb (length ws₀) 80 n))
+
+-- The loop over the rules in a run of unseen ticks.
+module _ (ss : List Setting) (first last : ℕ) (ws₀ : List ℕ) where
+  abbrev pub Missing : List ℕ → ℕ → Type 0
+  Missing ws i = Moving (λ j. movesBetween first last (settingOf ss j) j) (λ j. unseenWords first last (settingOf ss j) j ws₀) ws₀ ws i
+
+  pub missing-next : (ws out : List ℕ) (i : ℕ) → Missing ws i → i < 16
+      → out ≡ recordWith (λ j. eqb j i && movesBetween first last (settingOf ss i) i) (λ j. unseenWords first last (settingOf ss i) i ws) ws → Missing out (i + 1)
+  missing-next ws out i g h o =
+      moving-next (λ j. movesBetween first last (settingOf ss j) j) (λ j. unseenWords first last (settingOf ss j) j ws₀) ws₀ ws out (unseenWords first last (settingOf ss i) i ws) i g h o
+      (unseen-read first last (settingOf ss i) i ws ws₀ (moving-read (λ j. movesBetween first last (settingOf ss j) j) (λ j. unseenWords first last (settingOf ss j) j ws₀) ws₀ ws i g h))
+
+  pub unseen-done : (out : List ℕ) → length ws₀ ≡ 80
+      → out ≡ recordWith (λ i. movesBetween first last (settingOf ss i) i) (λ i. unseenWords first last (settingOf ss i) i ws₀) ws₀ → out ≡ afterUnseen ss first last ws₀
+  unfolding afterUnseen
+  unseen-done out l e =
+      e ∙ sym (ap (λ (b : Bool). cond b (recordWith (λ i. movesBetween first last (settingOf ss i) i) (λ i. unseenWords first last (settingOf ss i) i ws₀) ws₀) ws₀) (eq-eqb (length ws₀) 80 l))
+
+  pub missing-end : (ws : List ℕ) (i : ℕ) → Missing ws i → 16 ≤ i → ws ≡ afterUnseen ss first last ws₀
+  missing-end ws i g h =
+      unseen-done ws (g .long) (moving-end (λ j. movesBetween first last (settingOf ss j) j) (λ j. unseenWords first last (settingOf ss j) j ws₀) ws₀ ws i g h)
+
+  pub unseen-kept : (length ws₀ ≡ 80 → ⊥) → ws₀ ≡ afterUnseen ss first last ws₀
+  unfolding afterUnseen
+  unseen-kept n =
+      sym (ap (λ (b : Bool). cond b (recordWith (λ i. movesBetween first last (settingOf ss i) i) (λ i. unseenWords first last (settingOf ss i) i ws₀) ws₀) ws₀) (ne-eqb (length ws₀) 80 n))
+
+-- The row of a rule in the table by value.
+pub row-of : (t : List Row) (i : ℕ) (d : Row) → t ≡ rows → i < 16 → getD t i d ≡ rowAt i
+row-of t i d e h = ap (λ (x : List Row). getD x i d) e ∙ any-default rows i d _ h
+  where
+    any-default : (l : List Row) (i : ℕ) (d d′ : Row) → i < length l → getD l i d ≡ getD l i d′
+    any-default [] i d d′ h = absurd (omega arith)
+    any-default (x ∷ l) zero d d′ h = refl
+    any-default (x ∷ l) (suc i) d d′ h = any-default l i d d′ (omega arith)

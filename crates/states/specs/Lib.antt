@@ -1,0 +1,5 @@
+pub mod Records
+pub mod Words
+pub mod Steps
+pub mod Readings
+pub mod Tracking

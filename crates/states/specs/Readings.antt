@@ -1,0 +1,24 @@
+-- The flags of all rules, read off the record of possible states.
+use Prim.Native.Nat.{ℕ}
+use mathlib.Core.Bool.{Bool, cond}
+use mathlib.Core.List.{List}
+use lib.Dec.{eqb}
+use lib.ListN.{length}
+use Rattle.rules.specs.declared.Setting.{Setting}
+use Rattle.rules.specs.Evaluation.{top, alert, status}
+use Rattle.flags.specs.declared.Flag.the-variants.{Unknown}
+use Rattle.flags.specs.declared.RuleFlags.{RuleFlags}
+use Rattle.fillings.specs.PossibleStates.{tabulate}
+use Rattle.fillings.specs.Flags.{flag}
+use Rattle.states.specs.Steps.{settingOf, setOf}
+
+-- The alert and the status of a set of the states 0 to m.
+abbrev pub flagsOf : ℕ → List Bool → RuleFlags
+flagsOf m p = record { alert = flag m alert p; status = flag m (status m) p }
+
+-- The flags of all sixteen rules; of a list that is not eighty words long nothing is known.
+unfoldable pub allFlags : List Setting → List ℕ → List RuleFlags
+allFlags ss ws =
+    cond (eqb (length ws) 80)
+    (tabulate 16 (λ i. flagsOf (top (settingOf ss i .time)) (setOf (settingOf ss i) i ws)))
+    (tabulate 16 (λ i. record { alert = Unknown; status = Unknown }))

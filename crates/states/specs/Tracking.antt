@@ -1,0 +1,33 @@
+-- The record of a trace's possible states, and its flags: what the steps keep and the readings give.
+use Prim.Native.Nat.{ℕ, suc, _≤_, _<_}
+use mathlib.Core.Path.{_≡_}
+use mathlib.Core.Bool.{Bool}
+use mathlib.Core.List.{List}
+use Rattle.rules.specs.Samples.{Sample, readingsOf}
+use Rattle.fillings.specs.Fillings.{Shown, seen, unseen, Pack, ruleOf}
+use Rattle.fillings.specs.PossibleStates.{tabulate, possible}
+use Rattle.fillings.specs.Flags.{alertFlag, statusFlag}
+use Rattle.states.specs.Records.{packed, fresh}
+use Rattle.states.specs.Steps.{settingOf, afterSeen, afterUnseen}
+use Rattle.states.specs.Readings.{allFlags}
+
+-- The record of the possible states once the first k ticks have passed.
+abbrev pub recordAt : Pack → (ℕ → Shown) → ℕ → List ℕ
+recordAt p trace k = packed (λ i. possible (ruleOf p i) trace k)
+
+-- No time is over 255.
+abbrev pub ShortTimes : Pack → Type 0
+ShortTimes p = (i : ℕ) → settingOf (p .settings) i .time ≤ 255
+
+-- What the code's record has to do with a trace: it begins with the possible states, each step keeps them, and its flags are the trace's.
+pub record Tracks (p : Pack) (trace : ℕ → Shown) : Type 0 where
+  pub begins : fresh ≡ recordAt p trace 0
+  pub sees : (k : ℕ) (x : Sample) → trace k ≡ seen x → afterSeen (p .settings) (p .idle) k (readingsOf x) (recordAt p trace k) ≡ recordAt p trace (suc k)
+  pub misses : (first last : ℕ) → first ≤ last → ((t : ℕ) → first ≤ t → t ≤ last → trace t ≡ unseen)
+      → afterUnseen (p .settings) first last (recordAt p trace first) ≡ recordAt p trace (suc last)
+  pub reads : (k : ℕ) → allFlags (p .settings) (recordAt p trace k)
+      ≡ tabulate 16 (λ i. record { alert = alertFlag (ruleOf p i) trace k; status = statusFlag (ruleOf p i) trace k })
+
+-- Records of sixteen sets that allow the same states are the same record.
+abbrev pub Determined : Type 0
+Determined = (f g : ℕ → List Bool) → ((i : ℕ) → i < 16 → f i ≡ g i) → packed f ≡ packed g

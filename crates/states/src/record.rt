@@ -1,0 +1,52 @@
+// The words of one rule in the record of all rules.
+ghost use mathlib.Core.Path.{_≡_};
+ghost use Prim.Native.Nat.{_<_, _≤_};
+ghost use lib.Dec.{eqb};
+ghost use lib.ListN.{length};
+ghost use Rattle.fillings.specs.PossibleStates.{next};
+ghost use Rattle.states.specs.Records.{statesOf, wordsOf, ruleWords, recordWith};
+use crate::words::moved;
+
+pub(crate) fn load(words: &[u64], i: usize) -> [u64; 5]
+    requires { ⌜ (length (now words) ≡ 80) × (i < 16) ⌝ }
+    ensures { λ r. ⌜ r ≡ ruleWords (now (words .entry)) i ⌝ }
+{
+    let k = 5 * i;
+    [
+        words[k],
+        words[k + 1],
+        words[k + 2],
+        words[k + 3],
+        words[k + 4],
+    ]
+}
+
+pub(crate) fn store(words: &mut [u64], i: usize, w: [u64; 5])
+    requires { ⌜ (length (now words) ≡ 80) × (i < 16) ⌝ }
+    ensures { λ _. ⌜ now (words .exit) ≡ recordWith (λ j. eqb j i) (λ j. w) (now (words .entry)) ⌝ }
+{
+    let k = 5 * i;
+    words[k] = w[0];
+    words[k + 1] = w[1];
+    words[k + 2] = w[2];
+    words[k + 3] = w[3];
+    words[k + 4] = w[4];
+}
+
+// Moves one rule.
+pub(crate) fn move_rule(
+    words: &mut [u64],
+    i: usize,
+    top: usize,
+    up: bool,
+    restart: bool,
+    leave: bool,
+    stay: bool,
+)
+    requires { ⌜ (length (now words) ≡ 80) × ((i < 16) × ((0 < top) × (top ≤ 256))) ⌝ }
+    ensures { λ _. ⌜ now (words .exit) ≡ recordWith (λ j. eqb j i) (λ j. wordsOf (next top (record { up = up; restart = restart; leave = leave; stay = stay }) (statesOf (ruleWords (now (words .entry)) i) top))) (now (words .entry)) ⌝ }
+{
+    let w = load(words, i);
+    let v = moved(w, top, up, restart, leave, stay);
+    store(words, i, v);
+}
