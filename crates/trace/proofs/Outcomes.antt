@@ -1,0 +1,46 @@
+-- What the chain of the checks answers, by what each check answers.
+use Prim.Native.Nat.{ℕ}
+use mathlib.Core.Path.{_≡_}
+use mathlib.Core.List.{List}
+use borrow.Author.Tests.{eq-eqb, ne-eqb}
+use Rattle.refusals.specs.declared.Refusal.{Refusal}
+use Rattle.refusals.specs.Refusals.{Answer, answer, refused, refusal}
+use Rattle.rules.specs.Limits.{rulesAnswer, settingsOf}
+use Rattle.trace.specs.Sections.{walkAnswer, rulesPart}
+use Rattle.trace.specs.declared.Acceptance.{Acceptance}
+use Rattle.trace.specs.declared.Accepted.the-variants.{Unaccepted}
+use Rattle.trace.specs.declared.Layout.{Layout}
+use Rattle.trace.specs.Acceptance.{Whole, recordsAnswer, acceptAnswer, answerOfAccept, ticksOf, layoutOf, settingsIn}
+
+-- A refused trace.
+pub refuses : {r : Acceptance} {why : Refusal} {a : Answer Whole}
+    → (r .answer ≡ Unaccepted why) × (r .layout ≡ layoutOf (refused 0 0)) × (r .settings .of ≡ settingsIn (refused 0 0)) → a ≡ refusal why
+    → (answerOfAccept (r .answer) ≡ ticksOf a) × ((r .layout ≡ layoutOf a) × (r .settings .of ≡ settingsIn a))
+refuses (e, f, g) h = (rw (e, h), (rw (f, h), rw (g, h)))
+
+pub no-report : (s : List ℕ) {report : ℕ} (verdicts : ℕ) → (report ≡ 187 → ⊥) → acceptAnswer s report verdicts ≡ refused 12 0
+unfolding acceptAnswer
+no-report s {report} verdicts h = rw (ne-eqb report 187 h)
+
+pub no-sections : (s : List ℕ) {report : ℕ} (verdicts : ℕ) {n p : ℕ} → report ≡ 187 → walkAnswer s ≡ refused n p → acceptAnswer s report verdicts ≡ refused n p
+unfolding acceptAnswer
+no-sections s {report} verdicts h w = rw (eq-eqb report 187 h, w)
+
+module _ (s : List ℕ) {l : Layout} {verdicts : ℕ} (w : walkAnswer s ≡ answer l) where
+  pub no-verdicts : (verdicts ≡ l .«reply_count» → ⊥) → acceptAnswer s 187 verdicts ≡ refused 13 0
+  unfolding acceptAnswer
+  no-verdicts h = rw (w, ne-eqb verdicts (l .«reply_count») h)
+
+  module _ (v : verdicts ≡ l .«reply_count») where
+    pub no-rules : {n p : ℕ} → rulesAnswer (l .cells) (rulesPart s) ≡ refused n p → acceptAnswer s 187 verdicts ≡ refused n p
+    unfolding acceptAnswer
+    no-rules h = rw (w, eq-eqb verdicts (l .«reply_count») v, h)
+
+    module _ {u : Unit {0}} (limits : rulesAnswer (l .cells) (rulesPart s) ≡ answer u) where
+      pub no-records : {n p : ℕ} → recordsAnswer s l ≡ refused n p → acceptAnswer s 187 verdicts ≡ refused n p
+      unfolding acceptAnswer
+      no-records h = rw (w, eq-eqb verdicts (l .«reply_count») v, limits, h)
+
+      pub accepted : {t : ℕ} → recordsAnswer s l ≡ answer t → acceptAnswer s 187 verdicts ≡ answer (record { layout = l; settings = settingsOf (rulesPart s); ticks = t })
+      unfolding acceptAnswer
+      accepted h = rw (w, eq-eqb verdicts (l .«reply_count») v, limits, h)

@@ -1,0 +1,63 @@
+-- Paper 01, 'Refusal numbers': the trace order whole: 12; 1 to 4; the sections with 5 and 6; 11; 13; 7; 8; 9; 10.
+use Prim.Native.Nat.{ℕ, _+_}
+use mathlib.Core.Bool.{cond}
+use mathlib.Core.List.{List}
+use lib.Dec.{eqb}
+use lib.ListN.{length}
+use Rattle.refusals.specs.Refusals.{Answer, answer, refused, refusal}
+use Rattle.rules.specs.declared.Setting.{Setting}
+use Rattle.rules.specs.Limits.{off, tabulateFrom, settingsOf}
+use Rattle.rules.specs.Limits as limits
+use Rattle.trace.specs.Records.{holesIn, repliesIn, samplesIn}
+use Rattle.trace.specs.Sections.{andThen, walkAnswer, rulesPart, holesPart, repliesPart, samplesPart}
+use Rattle.trace.specs.Coverage.{holesAnswer, coverAnswer, repliesAnswer}
+use Rattle.trace.specs.declared.Layout.{Layout}
+use Rattle.trace.specs.declared.Accepted.{Accepted}
+use Rattle.trace.specs.declared.Accepted.the-variants.{Covered, Unaccepted}
+
+-- Refusals 8, 9 and 10 of a trace whose sections are whole: the ticks that it covers.
+abbrev pub recordsAnswer : List ℕ → Layout → Answer ℕ
+recordsAnswer s l =
+    andThen (holesAnswer (holesIn (holesPart s l)) 0 0) (λ holes.
+    andThen (coverAnswer (length (holesIn (holesPart s l)) + length (samplesIn (l .cells) (samplesPart s l))) (holesIn (holesPart s l)) (samplesIn (l .cells) (samplesPart s l)) 0) (λ ticks.
+    andThen (repliesAnswer ticks (repliesIn (repliesPart s l)) 0 0) (λ replies.
+    answer ticks)))
+
+-- What an accepted trace hands on.
+pub record Whole : Type 0 where
+  pub layout : Layout
+  pub settings : List Setting
+  pub ticks : ℕ
+
+-- The acceptance of a trace, with the lengths of the lent report and verdict buffer.
+unfoldable pub acceptAnswer : List ℕ → ℕ → ℕ → Answer Whole
+acceptAnswer s report verdicts =
+    cond (eqb report 187)
+    (andThen (walkAnswer s) (λ l.
+    cond (eqb verdicts (l .«reply_count»))
+    (andThen (limits.rulesAnswer (l .cells) (rulesPart s)) (λ rules.
+    andThen (recordsAnswer s l) (λ ticks.
+    answer (record { layout = l; settings = settingsOf (rulesPart s); ticks = ticks }))))
+    (refused 13 0)))
+    (refused 12 0)
+
+-- What `accept` answers, in the paper's numbers: the ticks, or a refusal.
+abbrev pub answerOfAccept : Accepted → Answer ℕ
+answerOfAccept (Covered ticks) = answer ticks
+answerOfAccept (Unaccepted why) = refusal why
+
+-- The ticks of an acceptance.
+abbrev pub ticksOf : Answer Whole → Answer ℕ
+ticksOf (answer w) = answer (w .ticks)
+ticksOf (refused number place) = refused number place
+
+-- The layout that is handed on: all zeros where the trace is refused.
+abbrev pub layoutOf : Answer Whole → Layout
+layoutOf (answer w) = w .layout
+layoutOf (refused number place) =
+    record { cells = 0; idle = 0; holes = 0; «holes_end» = 0; replies = 0; «replies_end» = 0; «reply_count» = 0; samples = 0 }
+
+-- The settings that are handed on: all off where the trace is refused.
+abbrev pub settingsIn : Answer Whole → List Setting
+settingsIn (answer w) = w .settings
+settingsIn (refused number place) = tabulateFrom 0 16 (λ i. off)

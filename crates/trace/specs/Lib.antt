@@ -1,0 +1,5 @@
+pub mod Records
+pub mod Sections
+pub mod Coverage
+pub mod Acceptance
+pub mod Checks

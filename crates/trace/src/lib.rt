@@ -1,0 +1,100 @@
+// A trace taken apart and checked (paper 01, 'The trace', 'Refusal numbers').
+ghost use mathlib.Core.Path.{_≡_};
+ghost use Rattle.trace.specs.Sections.{walkAnswer, answerOfWalk};
+ghost use Rattle.trace.specs.Acceptance.{acceptAnswer, answerOfAccept, ticksOf, layoutOf, settingsIn};
+
+mod coverage;
+mod order;
+mod replies;
+mod sections;
+
+use order::accept_layout;
+use order::refuse;
+use refusals::Refusal;
+use rules::Settings;
+use sections::Checked;
+use sections::Sectioned;
+use sections::check_head;
+use sections::check_rule_count;
+use sections::read_section;
+use sections::sample_width;
+
+// Where the sections of a trace lie. The rules are the bytes 6 to 165.
+pub struct Layout {
+    pub cells: u8,
+    pub idle: u16,
+    pub holes: usize,
+    pub holes_end: usize,
+    pub replies: usize,
+    pub replies_end: usize,
+    pub reply_count: usize,
+    pub samples: usize,
+}
+
+pub enum Walk {
+    Whole(Layout),
+    Broken(Refusal),
+}
+
+// The sections of a trace, or the first refusal among 1 to 6 and 11. The reply count is that of the verdict buffer.
+pub fn walk_sections(s: &[u8]) -> Walk
+    ensures { λ r. ⌜ answerOfWalk r ≡ walkAnswer (now (s .entry)) ⌝ }
+{
+    if let Checked::Failed(why) = check_head(s) {
+        return Walk::Broken(why);
+    }
+    if let Checked::Failed(why) = check_rule_count(s) {
+        return Walk::Broken(why);
+    }
+    let Sectioned::At(holes) = read_section(s, 166, 8) else {
+        return Walk::Broken(Refusal::PastEnd);
+    };
+    let Sectioned::At(replies) = read_section(s, holes.end, 10) else {
+        return Walk::Broken(Refusal::PastEnd);
+    };
+    let cells = s[1];
+    let Sectioned::At(samples) = read_section(s, replies.end, sample_width(cells)) else {
+        return Walk::Broken(Refusal::PastEnd);
+    };
+    if samples.end != s.len() {
+        return Walk::Broken(Refusal::LeftOver);
+    }
+    Walk::Whole(Layout {
+        cells,
+        idle: bytes_le::u16_at(s, 2),
+        holes: holes.start,
+        holes_end: holes.end,
+        replies: replies.start,
+        replies_end: replies.end,
+        reply_count: replies.count,
+        samples: samples.start,
+    })
+}
+
+pub enum Accepted {
+    Covered(u32),
+    Unaccepted(Refusal),
+}
+
+// An acceptance: the ticks that the trace covers, its layout and its settings.
+pub struct Acceptance {
+    pub answer: Accepted,
+    pub layout: Layout,
+    pub settings: Settings,
+}
+
+// Accepts a trace, or refuses it for the first reason in the paper's order; `report` and `verdicts` are the lengths of the
+// buffers that a judge is lent.
+pub fn accept(s: &[u8], report: usize, verdicts: usize) -> Acceptance
+    ensures answer { λ r. ⌜ answerOfAccept (r .answer) ≡ ticksOf (acceptAnswer (now (s .entry)) report verdicts) ⌝ }
+    ensures layout { λ r. ⌜ r .layout ≡ layoutOf (acceptAnswer (now (s .entry)) report verdicts) ⌝ }
+    ensures settings { λ r. ⌜ r .settings .of ≡ settingsIn (acceptAnswer (now (s .entry)) report verdicts) ⌝ }
+{
+    if report != 187 {
+        return refuse(Refusal::ReportLength);
+    }
+    match walk_sections(s) {
+        Walk::Broken(why) => refuse(why),
+        Walk::Whole(l) => accept_layout(s, l, verdicts),
+    }
+}
