@@ -34,7 +34,7 @@ record-kept c new ws l n =
     let h : k < 80 = omega (arith, record-length c new ws) in
     record-at c new ws k h ∙ ap (λ (b : Bool). cond b (getD (new (k / 5)) (k % 5) 0) (getD ws k 0)) (n (k / 5) (omega arith)))
 
-word-of : (ws : List ℕ) (i j : ℕ) → j < 5 → getD (ruleWords ws i) j 0 ≡ getD ws (5 * i + j) 0
+pub word-of : (ws : List ℕ) (i j : ℕ) → j < 5 → getD (ruleWords ws i) j 0 ≡ getD ws (5 * i + j) 0
 word-of ws i j h = getD-take 5 (drop (5 * i) ws) j 0 h ∙ getD-drop (5 * i) ws j 0
 
 record-word : (c : ℕ → Bool) (new : ℕ → List ℕ) (ws : List ℕ) (i j : ℕ) → i < 16 → j < 5

@@ -9,5 +9,6 @@ pub mod SetFlags
 pub mod Tops
 pub mod RuleSteps
 pub mod RuleFlagLaws
+pub mod OneRule
 pub mod OffRules
 pub mod Tracking

@@ -45,21 +45,24 @@ status-off w =
     (sym (refuted (someBelow 1 (λ s. has (statesOf w 0) s && status 0 s)) (λ t.
     let (s, h, u) = some-elim 1 (λ s. has (statesOf w 0) s && status 0 s) t in and-right (has (statesOf w 0) s) (status 0 s) u)))
 
+-- Status is active in some state of a set exactly if the top state is in it.
+pub top-active : (m : ℕ) (p : List Bool) → 0 < m → has p m ≡ someBelow (suc m) (λ s. has p s && status m s)
+top-active m p pos =
+    bool-ext _ _
+    (λ t. some-intro (suc m) (λ s. has p s && status m s) m (omega arith)
+    (both (has p m) (status m m) t (both (ltb 0 m) (eqb m m) (lt→ltb 0 m pos) (eqb-refl m))))
+    (λ t.
+    let (s, h, u) = some-elim (suc m) (λ s. has p s && status m s) t in
+    let e : s ≡ m = eqb→eq s m (and-right (ltb 0 m) (eqb s m) (and-right (has p s) (status m s) u)) in
+    subst (λ (x : ℕ). T (has p x)) e (and-left (has p s) (status m s) u))
+
 module _ (w : List ℕ) (m : ℕ) (fits : m ≤ 256) where
   abbrev P : List Bool
   P = statesOf w m
 
   -- the top state is possible
   active : 0 < m → at w m ≡ someBelow (suc m) (λ s. has P s && status m s)
-  active pos =
-      bool-ext _ _
-      (λ t. some-intro (suc m) (λ s. has P s && status m s) m (omega arith)
-      (both (has P m) (status m m) (subst T (sym (has-states w m m (omega arith))) t) (both (ltb 0 m) (eqb m m) (lt→ltb 0 m pos) (eqb-refl m))))
-      (λ t.
-      let (s, h, u) = some-elim (suc m) (λ s. has P s && status m s) t in
-      let e : s ≡ m = eqb→eq s m (and-right (ltb 0 m) (eqb s m) (and-right (has P s) (status m s) u)) in
-      let v : T (has P s) = and-left (has P s) (status m s) u in
-      subst T (has-states w m m (omega arith)) (subst (λ (x : ℕ). T (has P x)) e v))
+  active pos = sym (has-states w m m (omega arith)) ∙ top-active m P pos
 
   inactive : 0 < m → someBelow m (has P) ≡ someBelow (suc m) (λ s. has P s && not (status m s))
   inactive pos =
@@ -82,6 +85,11 @@ module _ (w : List ℕ) (m : ℕ) (fits : m ≤ 256) where
       → flagOf held some ≡ flag m (status m) P
   status-right low held some pos lo h e =
       flag-by m (status m) P held some (h ∙ active pos) (e ∙ some-states w low m (omega arith) lo ∙ inactive pos)
+
+  pub status-clear : 0 < m → at w m ≡ false → Clear ≡ flag m (status m) P
+  unfolding flag
+  status-clear pos h =
+      ap (λ (b : Bool). flagOf b (someBelow (suc m) (λ s. has P s && not (status m s)))) (sym h ∙ active pos)
 
   -- a state above 0 is possible
   alerted : (low high : List ℕ) → Below w (m + 1) low → Alerting low high → someBelow 320 (at high) ≡ someBelow (suc m) (λ s. has P s && alert s)

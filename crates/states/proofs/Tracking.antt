@@ -98,7 +98,7 @@ module _ (p : Pack) (short : ShortTimes p) (trace : ℕ → Shown) where
   top-low i = let h : settingOf (p .settings) i .time ≤ 255 = short i in top-fits (settingOf (p .settings) i .time) (omega arith)
 
   -- the set that the record has for a rule
-  set-at : (k i : ℕ) → i < 16 → setOf (settingOf (p .settings) i) i (recordAt p trace k) ≡ P k i
+  pub set-at : (k i : ℕ) → i < 16 → setOf (settingOf (p .settings) i) i (recordAt p trace k) ≡ possible (ruleOf p i) trace k
   set-at k i h =
       ap (λ (w : List ℕ). statesOf w (last (ruleOf p i))) (packed-rule (P k) i h)
       ∙ states-words (P k i) (last (ruleOf p i)) (possible-length (ruleOf p i) trace k) (omega (arith, top-low i))

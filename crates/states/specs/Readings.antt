@@ -1,15 +1,17 @@
 -- The flags of all rules, read off the record of possible states.
 use Prim.Native.Nat.{ℕ}
-use mathlib.Core.Bool.{Bool, cond}
+use mathlib.Core.Bool.{Bool, cond, _&&_}
 use mathlib.Core.List.{List}
-use lib.Dec.{eqb}
+use lib.Dec.{ltb, eqb}
 use lib.ListN.{length}
 use Rattle.rules.specs.declared.Setting.{Setting}
 use Rattle.rules.specs.Evaluation.{top, alert, status}
+use Rattle.flags.specs.declared.Flag.{Flag}
 use Rattle.flags.specs.declared.Flag.the-variants.{Unknown}
 use Rattle.flags.specs.declared.RuleFlags.{RuleFlags}
 use Rattle.fillings.specs.PossibleStates.{tabulate}
 use Rattle.fillings.specs.Flags.{flag}
+use Rattle.states.specs.Records.{at, ruleWords}
 use Rattle.states.specs.Steps.{settingOf, setOf}
 
 -- The alert and the status of a set of the states 0 to m.
@@ -22,3 +24,12 @@ allFlags ss ws =
     cond (eqb (length ws) 80)
     (tabulate 16 (λ i. flagsOf (top (settingOf ss i .time)) (setOf (settingOf ss i) i ws)))
     (tabulate 16 (λ i. record { alert = Unknown; status = Unknown }))
+
+-- The status of rule i; unknown where it is no rule or the list is not eighty words long.
+unfoldable pub statusIn : Setting → ℕ → List ℕ → Flag
+statusIn s i ws =
+    cond (eqb (length ws) 80 && ltb i 16) (flag (top (s .time)) (status (top (s .time))) (setOf s i ws)) Unknown
+
+-- Whether state s of rule i is possible.
+unfoldable pub allowed : List ℕ → ℕ → ℕ → Bool
+allowed ws i s = eqb (length ws) 80 && (ltb i 16 && (ltb s 320 && at (ruleWords ws i) s))

@@ -12,10 +12,13 @@ mod unseen;
 mod words;
 
 use flags::Flags;
+pub use reading::allows;
 pub use reading::flags_in;
+pub use reading::status_in;
 use rules::Readings;
 use rules::Settings;
 pub use seen::see;
+pub use unseen::evaluations_in;
 pub use unseen::miss;
 
 // Five words a rule: state s of rule i is bit s of the words from 5 i on, the lowest first.

@@ -1,10 +1,10 @@
-// The flags of all rules.
+// What is read off the record: the flags of all rules, the status of one, and whether a state is possible.
 ghost use mathlib.Core.Path.{_≡_};
 ghost use Prim.Native.Nat.{_<_};
 ghost use lib.ListN.{length};
 ghost use Rattle.rules.specs.Evaluation.{top};
 ghost use Rattle.states.specs.Steps.{setOf};
-ghost use Rattle.states.specs.Readings.{flagsOf, allFlags};
+ghost use Rattle.states.specs.Readings.{flagsOf, allFlags, statusIn, allowed};
 use crate::record::load;
 use crate::words::alert_of;
 use crate::words::status_of;
@@ -46,4 +46,35 @@ pub fn flags_in(words: &[u64], settings: Settings) -> Flags
         i += 1;
     }
     flags
+}
+
+// The status of rule i. Of a list that is no record, and past the rules, nothing is known.
+pub fn status_in(words: &[u64], i: usize, setting: Setting) -> Flag
+    ensures { λ r. ⌜ r ≡ statusIn setting i (now (words .entry)) ⌝ }
+{
+    if words.len() != 80 {
+        return Flag::Unknown;
+    }
+    if i < 16 {
+        let top = top_for(setting.time);
+        let w = load(words, i);
+        return status_of(w, top);
+    }
+    Flag::Unknown
+}
+
+// Whether state s of rule i is possible, from the one word that holds it.
+pub fn allows(words: &[u64], i: usize, s: usize) -> bool
+    ensures { λ r. ⌜ r ≡ allowed (now (words .entry)) i s ⌝ }
+{
+    if words.len() != 80 {
+        return false;
+    }
+    if i < 16 {
+        if s < 320 {
+            let k = 5 * i + s / 64;
+            return (words[k] >> (s % 64)) % 2 == 1;
+        }
+    }
+    false
 }

@@ -17,7 +17,7 @@ use rules::Setting;
 use rules::Settings;
 
 // How often a rule is evaluated from first to last, both included.
-fn evaluations_in(row: Row, first: u32, last: u32) -> u64
+pub fn evaluations_in(row: Row, first: u32, last: u32) -> u64
     ensures { λ n. ⌜ n ≡ evaluations row first (suc last) ⌝ }
 {
     if last < first {

@@ -184,9 +184,11 @@ pub(crate) fn status_of(w: [u64; 5], top: usize) -> Flag
     if top == 0 {
         return Flag::Clear;
     }
-    let held = test(w, top);
-    let low = below(w, top);
-    flags::flag_of(held, some(low))
+    if test(w, top) {
+        let low = below(w, top);
+        return flags::flag_of(true, some(low));
+    }
+    Flag::Clear
 }
 
 // The states above 0.

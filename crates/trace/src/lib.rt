@@ -1,6 +1,6 @@
 // A trace taken apart and checked (paper 01, 'The trace', 'Refusal numbers').
 ghost use mathlib.Core.Path.{_≡_};
-ghost use Rattle.trace.specs.Sections.{walkAnswer, answerOfWalk};
+ghost use Rattle.trace.specs.Sections.{walkAnswer, answerOfWalk, replyCount};
 ghost use Rattle.trace.specs.Acceptance.{acceptAnswer, answerOfAccept, ticksOf, layoutOf, settingsIn};
 
 mod coverage;
@@ -69,6 +69,16 @@ pub fn walk_sections(s: &[u8]) -> Walk
         reply_count: replies.count,
         samples: samples.start,
     })
+}
+
+// The reply count of a trace, which its verdict buffer has to have; 0 where the sections are not whole.
+pub fn reply_count(s: &[u8]) -> usize
+    ensures { λ n. ⌜ n ≡ replyCount (walkAnswer (now (s .entry))) ⌝ }
+{
+    match walk_sections(s) {
+        Walk::Broken(why) => 0,
+        Walk::Whole(l) => l.reply_count,
+    }
 }
 
 pub enum Accepted {

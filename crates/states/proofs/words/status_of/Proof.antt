@@ -1,6 +1,6 @@
-use mathlib.Core.Path.{_∙_}
+use mathlib.Core.Path.{sym, _∙_}
 use native.Mathlib.Omega.{arith}
-use Rattle.states.proofs.SetFlags.{status-off, status-right}
+use Rattle.states.proofs.SetFlags.{status-off, status-right, status-clear}
 use borrow.Author.Needs.{needs}
 use Rattle.states.proofs.words.status_of.Statement.{statement}
 use Rattle.states.proofs.words.status_of.Tie as tie
@@ -22,12 +22,24 @@ flag-of-requires c κs = search needs
 
 returns-2 : tie.Need-returns-2
 returns-2 c =
-    let a = c .before .before .before .before .before .args in
+    let a = c .before .before .before .before .before .before .args in
     c .flag-of .ensures
-    ∙ status-right (a .w) (a .top) (c .before .before .before .before .before .pre) (c .before .before .below .result) (c .before .before .before .test .result) (c .before .some .result) (omega arith)
-    (c .before .before .below .ensures) (c .before .before .before .test .ensures) (c .before .some .ensures)
+    ∙ status-right (a .w) (a .top) (c .before .before .before .before .before .before .pre) (c .before .before .below .result) _ (c .before .some .result) (omega arith)
+    (c .before .before .below .ensures) (sym (c .before .before .before .if2 .taken) ∙ c .before .before .before .before .test .ensures) (c .before .some .ensures)
+
+returns-3 : tie.Need-returns-3
+returns-3 c =
+    let a = c .before .before .before .args in
+    status-clear (a .w) (a .top) (c .before .before .before .pre) (omega arith) (sym (c .before .test .ensures) ∙ c .if2 .left)
 
 pub status-of-spec : {M : Type 1} → statement M
 status-of-spec =
     tie.close
-    (tie.spec returns test-requires below-requires some-requires flag-of-requires returns-2)
+    (tie.spec
+    returns
+    test-requires
+    below-requires
+    some-requires
+    flag-of-requires
+    returns-2
+    returns-3)

@@ -1,0 +1,123 @@
+-- Demand 2 of every accepted trace.
+use Prim.Native.Nat.{ℕ, zero, suc, _<_}
+use native.Mathlib.Omega.{arith}
+use mathlib.Core.Path.{_≡_, refl, sym, ap, _∙_, subst}
+use mathlib.Core.Bool.{Bool, true, false, not, cond, _||_}
+use mathlib.Core.List.{List, [], _∷_}
+use lib.Dec.{T}
+use Rattle.rules.specs.declared.Row.{Row}
+use Rattle.rules.specs.Table.{rows}
+use Rattle.rules.specs.Evaluation.{alert}
+use Rattle.flags.specs.declared.Flag.{Flag}
+use Rattle.flags.specs.declared.Flag.the-variants.{Clear, Held}
+use Rattle.flags.specs.declared.Output.{Output}
+use Rattle.flags.specs.declared.Output.the-variants.{ChargeOpen, DischargeOpen, Fuse}
+use Rattle.flags.specs.Flags.{numberOf, withNext}
+use Rattle.flags.specs.Outputs.{drivers, outputOf, activeOf}
+use Rattle.trace.specs.Sections.{samplesPart}
+use Rattle.fillings.specs.PossibleStates.{tabulate}
+use Rattle.fillings.specs.Flags.{statusFlag}
+use Rattle.fillings.proofs.Demand3.{judged}
+use Rattle.fillings.proofs.Witness.{blank, blank-carried}
+use Rattle.ticks.specs.Traces.{Trace, traceOf, shown, Accepted}
+use Rattle.ticks.proofs.AcceptedBytes.{accepted}
+use Rattle.ticks.proofs.CoveredOnce.{covered-once}
+use Rattle.demands.specs.Reading.{ruleIn, Fills, UnderEvery, UnderSome}
+use Rattle.demands.specs.Demand3.{outputAt}
+use Rattle.demands.specs.Demand2.{runState, runActive, runOutput, RunJudged, TotalsJudged, Demand2}
+use Rattle.demands.proofs.ReportReads.{report-long, report-in, report-out, report-unseen, report-ticks}
+use Rattle.demands.proofs.TotalBounds.{Currents, currents, ticks-fit, unseen-fit, in-fits, out-fits}
+use Rattle.demands.proofs.FillingsOfTrace.{always}
+use Rattle.demands.proofs.CutReads.{tabulate-same, charge-at, discharge-at, fuse-at}
+use Rattle.demands.proofs.Demand3.{first-alike, active-of, rule-judged}
+use Rattle.demands.proofs.OneRun.{ticks-are, one-run}
+
+-- The totals, holes or not.
+totals-judged : (tr : Trace) → Accepted tr → Currents (tr .samples) → TotalsJudged tr
+totals-judged tr ok c =
+    let once = covered-once tr ok in
+    let m = ticks-fit tr ok in
+    record {
+      long = report-long tr;
+      chargeIn = report-in tr (in-fits tr ok c) ∙ once .chargedIn;
+      chargeOut = report-out tr (out-fits tr ok c) ∙ once .chargedOut;
+      unseen = report-unseen tr (unseen-fit tr ok) ∙ once .unseen;
+      covered = report-ticks tr (omega arith);
+    }
+
+-- A flag that is not unknown.
+abbrev sureFlag : Bool → Flag
+sureFlag b = cond b Held Clear
+
+-- An output is not unknown where none of its drivers is.
+with-sure : (d a b : Bool) (o : Flag) → o ≡ sureFlag b → cond d (withNext (sureFlag a) o) o ≡ sureFlag (cond d (a || b) b)
+with-sure true true b o e = refl
+with-sure true false b o e = e
+with-sure false a b o e = e
+
+output-sure : (drives : Row → Bool) (rs : List Row) (n : ℕ) (b : ℕ → Bool) → outputOf drives rs (tabulate n (λ i. sureFlag (b i))) ≡ sureFlag (activeOf drives rs (tabulate n b))
+unfolding outputOf activeOf
+output-sure drives [] n b = refl
+output-sure drives (row ∷ rs) zero b = refl
+output-sure drives (row ∷ rs) (suc n) b = with-sure (drives row) (b 0) _ _ (output-sure drives rs n (λ i. b (suc i)))
+
+number-sure : (b : Bool) → numberOf (sureFlag b) ≡ cond b 1 0
+number-sure true = refl
+number-sure false = refl
+
+-- What is x where a test holds and y where it does not.
+by-test : {A : Type 0} (b : Bool) (n x y : A) → (T b → n ≡ x) → (T (not b) → n ≡ y) → n ≡ cond b x y
+by-test true n x y f g = f tt
+by-test false n x y f g = g tt
+
+-- With no hole what is so of the run is so under every filling, and under some.
+module _ (tr : Trace) (ok : Accepted tr) (none : tr .holes ≡ []) where
+  a-filling : Fills tr (λ t. blank (tr .pack .cells))
+  a-filling t h = blank-carried (tr .pack .cells)
+
+  run-every : (i t : ℕ) → t < tr .ticks → (test : ℕ → Bool) → T (test (runState tr i t)) → UnderEvery tr i t test
+  run-every i t l test h f fills = subst (λ s. T (test s)) (sym (one-run tr ok none i t l f)) h
+
+  every-run : (i t : ℕ) → t < tr .ticks → (test : ℕ → Bool) → UnderEvery tr i t test → T (test (runState tr i t))
+  every-run i t l test all = subst (λ s. T (test s)) (one-run tr ok none i t l _) (all (λ u. blank (tr .pack .cells)) a-filling)
+
+  run-some : (i t : ℕ) → t < tr .ticks → (test : ℕ → Bool) → T (test (runState tr i t)) → UnderSome tr i t test
+  run-some i t l test h = ((λ u. blank (tr .pack .cells)), a-filling, run-every i t l test h _ a-filling)
+
+  some-run : (i t : ℕ) → t < tr .ticks → (test : ℕ → Bool) → UnderSome tr i t test → T (test (runState tr i t))
+  some-run i t l test (f, fills, h) = subst (λ s. T (test s)) (one-run tr ok none i t l f) h
+
+  status-sure : (i t : ℕ) → i < 16 → t < tr .ticks → statusFlag (ruleIn tr i) (shown tr) (suc t) ≡ sureFlag (runActive tr i t)
+  status-sure i t h l =
+      let j = judged (ruleIn tr i) (ok .rules i h) (shown tr) (tr .ticks) in
+      by-test (runActive tr i t) _ Held Clear
+      (λ u. j .statusHeld t .1 (always tr ok i t (active-of tr i) (run-every i t l (active-of tr i) u)))
+      (λ u. j .statusClear t .1 (always tr ok i t (λ s. not (active-of tr i s)) (run-every i t l (λ s. not (active-of tr i s)) u)))
+
+  output-run : (o : Output) (t : ℕ) → t < tr .ticks → numberOf (outputAt tr o t) ≡ cond (runOutput tr o t) 1 0
+  output-run o t l =
+      ap numberOf (ap (outputOf (drivers o) rows) (tabulate-same 16 _ _ (λ i h. status-sure i t h l)) ∙ output-sure (drivers o) rows 16 (λ i. runActive tr i t))
+      ∙ number-sure (runOutput tr o t)
+
+  run-judged : RunJudged tr
+  run-judged =
+      record {
+        one = one-run tr ok none;
+        alerts = λ i t h l. by-test (alert (runState tr i t)) _ 1 0
+            (λ u. rule-judged tr ok i h .alertHeld t l .1 (run-every i t l alert u))
+            (λ u. rule-judged tr ok i h .alertClear t l .1 (run-every i t l (λ s. not (alert s)) u));
+        statuses = λ i t h l. by-test (runActive tr i t) _ 1 0
+            (λ u. rule-judged tr ok i h .statusHeld t l .1 (run-every i t l (active-of tr i) u))
+            (λ u. rule-judged tr ok i h .statusClear t l .1 (run-every i t l (λ s. not (active-of tr i s)) u));
+        possible = λ i h. first-alike _ _ (λ t l. some-run i t l (active-of tr i)) (λ t l. run-some i t l (active-of tr i)) (rule-judged tr ok i h .firstSome);
+        held = λ i h. first-alike _ _ (λ t l. every-run i t l (active-of tr i)) (λ t l. run-every i t l (active-of tr i)) (rule-judged tr ok i h .firstAll);
+        charge = λ t l. charge-at tr ok t ∙ output-run ChargeOpen t l;
+        discharge = λ t l. discharge-at tr ok t ∙ output-run DischargeOpen t l;
+        fuse = λ t l. fuse-at tr ok t ∙ output-run Fuse t l;
+        ticks = ticks-are tr ok none;
+      }
+
+pub demand2 : Demand2
+demand2 s report verdicts w h =
+    let ok = accepted s report verdicts w h in
+    (totals-judged (traceOf s w) ok (currents (w .layout .cells) (samplesPart s (w .layout)) _ 0), run-judged (traceOf s w) ok)

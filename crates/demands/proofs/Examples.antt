@@ -1,0 +1,20 @@
+-- Some bytes with no hole are accepted, and some with a hole.
+use mathlib.Core.Path.{_≡_, refl}
+use mathlib.Core.List.{[], _∷_}
+use Rattle.refusals.specs.Refusals.{answer}
+use Rattle.rules.specs.Limits.{limits, limitsAnswer}
+use Rattle.rules.specs.Limits as L
+use Rattle.trace.specs.Records.{holesFrom, repliesFrom, samplesFrom}
+use Rattle.trace.specs.Sections.{headAnswer, rulesAnswer, sectionAnswer, walkAnswer}
+use Rattle.trace.specs.Coverage.{holesAnswer, coverAnswer, repliesAnswer}
+use Rattle.trace.specs.Acceptance.{Whole, acceptAnswer}
+use Rattle.ticks.specs.Traces.{traceOf}
+use Rattle.demands.specs.Examples.{withoutHole, withHole}
+
+pub without-hole-accepted : (w : Whole) × (acceptAnswer withoutHole 187 0 ≡ answer w) × (traceOf withoutHole w .holes ≡ [])
+unfolding acceptAnswer walkAnswer headAnswer rulesAnswer sectionAnswer L.rulesAnswer limitsAnswer limits holesAnswer coverAnswer repliesAnswer holesFrom repliesFrom samplesFrom
+without-hole-accepted = (_, refl, refl)
+
+pub with-hole-accepted : (w : Whole) × (acceptAnswer withHole 187 0 ≡ answer w) × (traceOf withHole w .holes ≡ record { first = 0; last = 0 } ∷ [])
+unfolding acceptAnswer walkAnswer headAnswer rulesAnswer sectionAnswer L.rulesAnswer limitsAnswer limits holesAnswer coverAnswer repliesAnswer holesFrom repliesFrom samplesFrom
+with-hole-accepted = (_, refl, refl)

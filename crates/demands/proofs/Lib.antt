@@ -1,0 +1,16 @@
+pub mod ReportReads
+pub mod TotalBounds
+pub mod FillingsOfTrace
+pub mod CutReads
+pub mod Demand3
+pub mod OneRun
+pub mod Demand2
+pub mod Examples
+pub mod ByteLists
+pub mod WrittenSections
+pub mod Spaced
+pub mod RecordBytes
+pub mod CutRecords
+pub mod AcceptedSections
+pub mod StillBytes
+pub mod CutBytes

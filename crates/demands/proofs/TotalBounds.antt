@@ -1,0 +1,83 @@
+-- The totals of an accepted trace fit their places in the report.
+use Prim.Native.Nat.{ℕ, zero, suc, _+_, _-_, _*_, _≤_, _<_}
+use mathlib.Core.Path.{_≡_, refl}
+use mathlib.Core.Bool.{Bool, true, false, cond}
+use mathlib.Core.List.{List, [], _∷_}
+use native.Mathlib.Omega.{arith}
+use lib.IntN.{ℤ, pos, negsuc}
+use lib.Dec.{ltb, eqb}
+use lib.ListN.{length}
+use borrow.Author.Tests.{ltb-true, ltb-false}
+use mir.Syntax.{w16}
+use mir.Val.{sel, toZ}
+use Rattle.bytes_le.specs.Numbers.{u16At}
+use Rattle.rules.specs.Samples.{Every, I16}
+use Rattle.trace.specs.Records.{Stamped, samplesFrom, sampleWidth}
+use Rattle.trace.proofs.TickBounds.{ticks-small}
+use Rattle.fillings.specs.Fillings.{Shown, seen, unseen}
+use Rattle.fillings.specs.Charge.{inward, outward, ofSeen, ofUnseen, total, chargeIn, chargeOut, unseenTicks}
+use Rattle.ticks.specs.Traces.{Trace, shown, shownIn, Accepted}
+
+pub ticks-fit : (tr : Trace) → Accepted tr → tr .ticks ≤ 0xFFFFFFFF
+ticks-fit tr ok = ticks-small (length (tr .holes) + length (tr .samples)) (tr .holes) (tr .samples) (ok .holes) (ok .covered)
+
+-- A sum of k numbers that are at most b.
+total-most : (g : ℕ → ℕ) (b k : ℕ) → ((t : ℕ) → g t ≤ b) → total g k ≤ b * k
+unfolding total
+total-most g b zero h = omega arith
+total-most g b (suc k) h = let l = total-most g b k h in omega (arith, h k)
+
+unseen-one : (w : Shown) → ofUnseen w ≤ 1
+unseen-one (seen x) = omega arith
+unseen-one unseen = omega arith
+
+pub unseen-fit : (tr : Trace) → Accepted tr → unseenTicks (shown tr) (tr .ticks) < 4294967296
+unseen-fit tr ok =
+    let l = ticks-fit tr ok in
+    omega (arith, total-most (λ t. ofUnseen (shown tr t)) 1 (tr .ticks) (λ t. unseen-one (shown tr t)))
+
+-- The current of every sample is an i16.
+abbrev pub Currents : List Stamped → Type 0
+Currents xs = Every (λ x. I16 (x .sample .current)) xs
+
+-- Whatever the bytes are.
+signed-fits : (n : ℕ) → I16 (toZ w16 n)
+signed-fits n = go (ltb n 32768) refl
+  where
+    go : (b : Bool) → ltb n 32768 ≡ b → I16 (sel b (pos n) (negsuc (65536 - suc n)))
+    go true e = ltb-true n 32768 e
+    go false e = let l = ltb-false n 32768 e in omega arith
+
+pub currents : (n : ℕ) (s : List ℕ) (k at : ℕ) → Currents (samplesFrom n s k at)
+unfolding samplesFrom
+currents n s zero at = tt
+currents n s (suc k) at = (signed-fits (u16At s (at + 4)), currents n s k (at + sampleWidth n))
+
+in-most : (z : ℤ) → I16 z → inward z ≤ 32768
+in-most (pos k) h = omega arith
+in-most (negsuc k) h = omega arith
+
+out-most : (z : ℤ) → I16 z → outward z ≤ 32768
+out-most (pos k) h = omega arith
+out-most (negsuc k) h = omega arith
+
+-- A number of the current of a shown sample.
+of-seen-most : (f : ℤ → ℕ) → ((z : ℤ) → I16 z → f z ≤ 32768) → (xs : List Stamped) → Currents xs → (t : ℕ) → ofSeen (λ x. f (x .current)) (shownIn xs t) ≤ 32768
+unfolding shownIn
+of-seen-most f most [] c t = omega arith
+of-seen-most f most (x ∷ xs) (a, c) t = go (eqb (x .tick) t) (of-seen-most f most xs c t)
+  where
+    go : (b : Bool) → ofSeen (λ y. f (y .current)) (shownIn xs t) ≤ 32768 → ofSeen (λ y. f (y .current)) (cond b (seen (x .sample)) (shownIn xs t)) ≤ 32768
+    go true l = most (x .sample .current) a
+    go false l = l
+
+module _ (tr : Trace) (ok : Accepted tr) (c : Currents (tr .samples)) where
+  pub in-fits : chargeIn (shown tr) (tr .ticks) < 18446744073709551616
+  in-fits =
+      let l = ticks-fit tr ok in
+      omega (arith, total-most (λ t. ofSeen (λ x. inward (x .current)) (shown tr t)) 32768 (tr .ticks) (of-seen-most inward in-most (tr .samples) c))
+
+  pub out-fits : chargeOut (shown tr) (tr .ticks) < 18446744073709551616
+  out-fits =
+      let l = ticks-fit tr ok in
+      omega (arith, total-most (λ t. ofSeen (λ x. outward (x .current)) (shown tr t)) 32768 (tr .ticks) (of-seen-most outward out-most (tr .samples) c))

@@ -1,0 +1,44 @@
+-- Paper 01, 'Three-way outputs': the report's first ticks, kept for sixteen rules over a seen tick and over a run of unseen ones.
+use Prim.Native.Nat.{ℕ, suc, _-_}
+use mathlib.Core.Bool.{Bool, cond, _&&_}
+use mathlib.Core.List.{List}
+use lib.Dec.{eqb}
+use lib.ListN.{getD, length}
+use Rattle.rules.specs.declared.Setting.{Setting}
+use Rattle.rules.specs.Table.{rowAt}
+use Rattle.rules.specs.Evaluation.{top, status}
+use Rattle.flags.specs.declared.Flag.{Flag}
+use Rattle.fillings.specs.PossibleStates.{tabulate, unseenTimes}
+use Rattle.fillings.specs.Flags.{flag, notClear, firstFrom}
+use Rattle.states.specs.Steps.{settingOf, setOf, evaluationsOf}
+
+-- No tick.
+abbrev pub none : ℕ
+none = 0xFFFFFFFF
+
+-- A first tick once found stays.
+abbrev pub noted : ℕ → ℕ → ℕ
+noted found first = cond (eqb first none) found first
+
+-- The status of rule i in a record of possible states.
+abbrev pub statusIn : Setting → ℕ → List ℕ → Flag
+statusIn s i ws = flag (top (s .time)) (status (top (s .time))) (setOf s i ws)
+
+-- The first ticks of a kind of status after a seen tick, from the record after it.
+unfoldable pub notedSeen : (Flag → Bool) → List Setting → ℕ → List ℕ → List ℕ → List ℕ
+notedSeen kind ss tick ws fs =
+    tabulate 16 (λ i. noted (cond (kind (statusIn (settingOf ss i) i ws)) tick none) (getD fs i 0))
+
+-- The first of the unseen ticks from first to last at which the status of rule i is held or unknown, from the record before them.
+abbrev pub firstUnseen : ℕ → ℕ → Setting → ℕ → List ℕ → ℕ
+firstUnseen first last s i ws =
+    firstFrom first (suc last - first)
+    (λ t. notClear (flag (top (s .time)) (status (top (s .time))) (unseenTimes (evaluationsOf first t i) (top (s .time)) (rowAt i .recovers) (setOf s i ws))))
+
+-- The first ticks of a status held or unknown after the unseen ticks from first to last, from the record before them.
+unfoldable pub notedUnseen : List Setting → ℕ → ℕ → List ℕ → List ℕ → List ℕ
+notedUnseen ss first last ws fs = tabulate 16 (λ i. noted (firstUnseen first last (settingOf ss i) i ws) (getD fs i 0))
+
+-- Eighty words, and sixteen first ticks.
+abbrev pub sized : List ℕ → List ℕ → Bool
+sized ws fs = eqb (length ws) 80 && eqb (length fs) 16

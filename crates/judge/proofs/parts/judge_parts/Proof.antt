@@ -1,0 +1,76 @@
+use mathlib.Core.Path.{refl}
+use native.Mathlib.Omega.{arith}
+use borrow.Author.Needs.{needs}
+use Rattle.judge.proofs.Ends.{point-start, report-end}
+use Rattle.judge.proofs.parts.judge_parts.Statement.{statement}
+use Rattle.judge.proofs.parts.judge_parts.Tie as tie
+
+begin-requires : tie.Need-begin-requires
+begin-requires c κs = search needs
+
+slice-aggregate-start-at : tie.Need-slice-aggregate-start-at
+slice-aggregate-start-at c = search needs
+
+start-at-requires : tie.Need-start-at-requires
+start-at-requires c κs = search needs
+
+slice-aggregate-judge-replies : tie.Need-slice-aggregate-judge-replies
+slice-aggregate-judge-replies c = search needs
+
+slice-aggregate-judge-replies-2 : tie.Need-slice-aggregate-judge-replies-2
+slice-aggregate-judge-replies-2 c = search needs
+
+slice-aggregate-judge-replies-3 : tie.Need-slice-aggregate-judge-replies-3
+slice-aggregate-judge-replies-3 c = search needs
+
+judge-replies-requires : tie.Need-judge-replies-requires
+judge-replies-requires c κs =
+    let g = c .before .before .before .before .before .before .before .before .before .before .before .before .before .pre in
+    let e = c .before .before .before .before .start-at .ensures in
+    (point-start g _ _ _ (c .before .before .before .before .before .before .before .begin .ensures) refl e, rw e (omega arith), g .ticksOfReplies, g .count, g .few)
+
+totals-of-requires : tie.Need-totals-of-requires
+totals-of-requires c κs = search needs
+
+slice-aggregate-write-end : tie.Need-slice-aggregate-write-end
+slice-aggregate-write-end c = search needs
+
+slice-aggregate-write-end-2 : tie.Need-slice-aggregate-write-end-2
+slice-aggregate-write-end-2 c = search needs
+
+slice-aggregate-write-end-3 : tie.Need-slice-aggregate-write-end-3
+slice-aggregate-write-end-3 c = search needs
+
+write-end-requires : tie.Need-write-end-requires
+write-end-requires c κs = search needs
+
+same-length : tie.Need-same-length
+same-length c = search needs
+
+same-length-2 : tie.Need-same-length-2
+same-length-2 c = search needs
+
+returns : tie.Need-returns
+returns c =
+    let r = c .before .before .before .before .before .before .before .before .before .before .before .before .before .judge-replies .ensures in
+    (report-end (c .before .before .before .before .before .before .before .before .before .before .before .before .before .before .before .before .before .before .before .before .before .before .before .before .before .before .before .pre) _ _ _ (r .0) (c .before .before .before .before .before .before .before .totals-of .ensures) (c .before .before .write-end .ensures), r .1)
+
+pub judge-parts-spec : {M : Type 1} → statement M
+judge-parts-spec =
+    tie.close
+    (tie.spec
+    begin-requires
+    slice-aggregate-start-at
+    start-at-requires
+    slice-aggregate-judge-replies
+    slice-aggregate-judge-replies-2
+    slice-aggregate-judge-replies-3
+    judge-replies-requires
+    totals-of-requires
+    slice-aggregate-write-end
+    slice-aggregate-write-end-2
+    slice-aggregate-write-end-3
+    write-end-requires
+    same-length
+    same-length-2
+    returns)

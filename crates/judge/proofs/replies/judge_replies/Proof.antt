@@ -1,0 +1,146 @@
+use Prim.Native.Nat.{ℕ, _+_, _-_}
+use mathlib.Core.Path.{sym, ap, _∙_}
+use native.Mathlib.Omega.{arith}
+use lib.ListN.{length, length-set}
+use borrow.Author.Needs.{needs}
+use Rattle.judge.specs.Walk.{packOf}
+use Rattle.judge.proofs.Knowing.{long, sixteen, sixteen-held}
+use Rattle.judge.proofs.Judging.{Judging, judging-start, next-reply, in-replies, six-bytes, judging-next, not-past, judging-end, known-there}
+use Rattle.judge.proofs.replies.judge_replies.Statement.{statement}
+use Rattle.judge.proofs.replies.judge_replies.Tie as tie
+
+abbrev Inv-loop : tie.InvT-loop
+Inv-loop holes samples replies cells idle settings ticks words₀ possible₀ held₀ verdicts₀ x₀ j₀ words possible held verdicts x j =
+    Judging (packOf cells idle (settings .of)) holes samples replies ticks words possible held verdicts x j
+
+abbrev μ-loop : tie.MeasureT-loop
+μ-loop holes samples replies cells idle settings ticks words₀ possible₀ held₀ verdicts₀ x₀ j₀ words possible held verdicts x j =
+    length verdicts - j
+
+loop-holds : tie.Need-loop-holds Inv-loop μ-loop
+loop-holds c =
+    let pre = c .before .before .before .before .before .before .before .pre in
+    judging-start (pre .0) (pre .1) (pre .2) (pre .3)
+
+mul-at : tie.Need-mul-at Inv-loop μ-loop
+mul-at c =
+    let l = in-replies (c .before .loop .inv) (c .loop-test .taken) in
+    omega arith
+
+u32-at-requires : tie.Need-u32-at-requires Inv-loop μ-loop
+u32-at-requires c κs = search needs
+
+add-to : tie.Need-add-to Inv-loop μ-loop
+add-to c =
+    let r = next-reply (c .before .before .loop .inv) (c .before .loop-test .taken) in
+    omega (arith, c .u32-at .ensures, r .covered)
+
+reach-requires : tie.Need-reach-requires Inv-loop μ-loop
+reach-requires c κs =
+    let l = c .before .before .before .before .before in
+    let r = next-reply (l .loop .inv) (c .before .before .before .before .loop-test .taken) in
+    (_, l .loop .inv .there, omega (arith, c .before .before .before .u32-at .ensures, r .after, l .loop .inv .passed), omega (arith, c .before .before .before .u32-at .ensures, r .covered))
+
+add-verdict-on : tie.Need-add-verdict-on Inv-loop μ-loop
+add-verdict-on c =
+    let l = in-replies (c .before .before .before .before .before .before .before .before .before .before .before .before .before .before .loop .inv) (c .before .before .before .before .before .before .before .before .before .before .before .before .before .loop-test .taken) in
+    let few = c .before .before .before .before .before .before .before .before .before .before .before .before .before .before .before .before .before .before .before .before .before .before .pre .4 in
+    omega arith
+
+add-verdict-on-2 : tie.Need-add-verdict-on-2 Inv-loop μ-loop
+add-verdict-on-2 c =
+    let l = in-replies (c .before .before .before .before .before .before .before .before .before .before .before .before .before .before .loop .inv) (c .before .before .before .before .before .before .before .before .before .before .before .before .before .loop-test .taken) in
+    let few = c .before .before .before .before .before .before .before .before .before .before .before .before .before .before .before .before .before .before .before .before .before .before .pre .4 in
+    omega arith
+
+sub-verdict-on : tie.Need-sub-verdict-on Inv-loop μ-loop
+sub-verdict-on c =
+    let l = in-replies (c .before .before .before .before .before .before .before .before .before .before .before .before .before .before .loop .inv) (c .before .before .before .before .before .before .before .before .before .before .before .before .before .loop-test .taken) in
+    let few = c .before .before .before .before .before .before .before .before .before .before .before .before .before .before .before .before .before .before .before .before .before .before .pre .4 in
+    omega arith
+
+part-verdict-on-start : tie.Need-part-verdict-on-start Inv-loop μ-loop
+part-verdict-on-start c =
+    let l = in-replies (c .before .before .before .before .before .before .before .before .before .before .before .before .before .before .loop .inv) (c .before .before .before .before .before .before .before .before .before .before .before .before .before .loop-test .taken) in
+    let few = c .before .before .before .before .before .before .before .before .before .before .before .before .before .before .before .before .before .before .before .before .before .before .pre .4 in
+    omega arith
+
+part-verdict-on-end : tie.Need-part-verdict-on-end Inv-loop μ-loop
+part-verdict-on-end c =
+    let l = in-replies (c .before .before .before .before .before .before .before .before .before .before .before .before .before .before .loop .inv) (c .before .before .before .before .before .before .before .before .before .before .before .before .before .loop-test .taken) in
+    let few = c .before .before .before .before .before .before .before .before .before .before .before .before .before .before .before .before .before .before .before .before .before .before .pre .4 in
+    omega arith
+
+verdict-on-requires : tie.Need-verdict-on-requires Inv-loop μ-loop
+verdict-on-requires c κs = six-bytes (c .before .before .before .before .before .before .before .before .before .before .before .before .before .before .before .loop .inv) (c .before .before .before .before .before .before .before .before .before .before .before .before .before .before .loop-test .taken)
+
+slice-write-verdicts : tie.Need-slice-write-verdicts Inv-loop μ-loop
+slice-write-verdicts c = c .before .before .before .before .before .before .before .before .before .before .before .before .before .before .before .loop-test .taken
+
+add-j : tie.Need-add-j Inv-loop μ-loop
+add-j c =
+    let l = in-replies (c .before .before .before .before .before .before .before .before .before .before .before .before .before .before .before .before .loop .inv) (c .before .before .before .before .before .before .before .before .before .before .before .before .before .before .before .loop-test .taken) in
+    let few = c .before .before .before .before .before .before .before .before .before .before .before .before .before .before .before .before .before .before .before .before .before .before .before .before .pre .4 in
+    omega arith
+
+loop-less : tie.Need-loop-less Inv-loop μ-loop
+loop-less c =
+    let l = c .before .before .before .before .before .before .before .before .before .before .before .before .before .before .before .loop-test .taken in
+    omega (arith, length-set (c .before .before .before .before .before .before .before .before .before .before .before .before .before .before .before .before .loop .verdicts) (c .before .before .before .before .before .before .before .before .before .before .before .before .before .before .before .before .loop .j) (c .verdict-on .result))
+
+loop-again : tie.Need-loop-again Inv-loop μ-loop
+loop-again c =
+    let l = c .before .before .before .before .before .before .before .before .before .before .before .before .before .before .before .before in
+    let u = c .before .before .before .before .before .before .before .before .before .before .before .before .before .before .u32-at .ensures in
+    let r = next-reply (l .loop .inv) (c .before .before .before .before .before .before .before .before .before .before .before .before .before .before .before .loop-test .taken) in
+    judging-next (l .loop .inv) (c .before .before .before .before .before .before .before .before .before .before .before .before .before .before .before .loop-test .taken) _ _ (ap (λ (k : ℕ). k + 1) u) (c .before .before .before .before .before .before .before .before .before .before .reach .ensures _ (l .loop .inv .there) (omega (arith, u, r .covered))) (c .verdict-on .ensures)
+
+reach-requires-2 : tie.Need-reach-requires-2 Inv-loop μ-loop
+reach-requires-2 c κs =
+    let i = c .before .before .before .before .loop .inv in
+    (_, i .there, not-past i, omega arith)
+
+returns : tie.Need-returns Inv-loop μ-loop
+returns c =
+    let i = c .before .before .before .before .before .before .before .before .before .before .before .loop .inv in
+    (known-there (c .before .before .before .before .before .before .reach2 .ensures _ (i .there) (omega arith)), judging-end i (c .before .before .before .before .before .before .before .before .before .before .loop-test .left))
+
+same-length : tie.Need-same-length Inv-loop μ-loop
+same-length c = long (returns c .0) ∙ sym (long (c .before .before .before .before .before .before .before .before .before .before .before .before .before .before .before .before .before .before .before .pre .0 .there .known))
+
+same-length-2 : tie.Need-same-length-2 Inv-loop μ-loop
+same-length-2 c = sixteen (returns c .0) ∙ sym (sixteen (c .before .before .before .before .before .before .before .before .before .before .before .before .before .before .before .before .before .before .before .pre .0 .there .known))
+
+same-length-3 : tie.Need-same-length-3 Inv-loop μ-loop
+same-length-3 c = sixteen-held (returns c .0) ∙ sym (sixteen-held (c .before .before .before .before .before .before .before .before .before .before .before .before .before .before .before .before .before .before .before .pre .0 .there .known))
+
+same-length-4 : tie.Need-same-length-4 Inv-loop μ-loop
+same-length-4 c = c .before .before .before .before .before .before .before .before .before .before .before .loop .inv .count ∙ sym (c .before .before .before .before .before .before .before .before .before .before .before .before .before .before .before .before .before .before .before .pre .3)
+
+pub judge-replies-spec : {M : Type 1} → statement M
+judge-replies-spec =
+    tie.close
+    (tie.spec
+    Inv-loop
+    μ-loop
+    loop-holds
+    mul-at
+    u32-at-requires
+    add-to
+    reach-requires
+    add-verdict-on
+    add-verdict-on-2
+    sub-verdict-on
+    part-verdict-on-start
+    part-verdict-on-end
+    verdict-on-requires
+    slice-write-verdicts
+    add-j
+    loop-less
+    loop-again
+    reach-requires-2
+    same-length
+    same-length-2
+    same-length-3
+    same-length-4
+    returns)

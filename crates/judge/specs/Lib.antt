@@ -1,0 +1,3 @@
+pub mod Judge
+pub mod Walk
+pub mod Ending

@@ -1,0 +1,35 @@
+-- One rule read from a record: its status, and whether a state of it is possible.
+use Prim.Native.Nat.{ℕ, _+_, _*_, _^_, _/_, _%_, _<_}
+use mathlib.Core.Path.{_≡_, ap, ap₂, sym, _∙_}
+use mathlib.Core.List.{List}
+use native.Mathlib.Omega.{arith}
+use lib.Dec.{eqb}
+use lib.ListN.{getD, length}
+use borrow.Author.Tests.{lt-ltb, eq-eqb}
+use Rattle.rules.specs.declared.Setting.{Setting}
+use Rattle.rules.specs.Evaluation.{top, status}
+use Rattle.flags.specs.declared.Flag.{Flag}
+use Rattle.fillings.specs.Flags.{flag}
+use Rattle.states.specs.Records.{bit, at, statesOf, ruleWords}
+use Rattle.states.specs.Steps.{setOf}
+use Rattle.states.specs.Readings.{statusIn, allowed}
+use Rattle.states.proofs.EachRule.{word-of}
+
+module _ (ws : List ℕ) (i : ℕ) (long : length ws ≡ 80) (rule : i < 16) where
+  pub status-of-rule : (s : Setting) → statusIn s i ws ≡ flag (top (s .time)) (status (top (s .time))) (setOf s i ws)
+  unfolding statusIn
+  status-of-rule s = rw (eq-eqb (length ws) 80 long, lt-ltb i 16 rule)
+
+  pub status-read : (s : Setting) (w : List ℕ) (m : ℕ) (f : Flag) → m ≡ top (s .time) → w ≡ ruleWords ws i → f ≡ flag m (status m) (statesOf w m)
+      → f ≡ statusIn s i ws
+  status-read s w m f em ew e =
+      e ∙ ap₂ (λ (n : ℕ) (x : List ℕ). flag n (status n) (statesOf x n)) em ew ∙ sym (status-of-rule s)
+
+  pub allowed-state : (s : ℕ) → s < 320 → allowed ws i s ≡ at (ruleWords ws i) s
+  unfolding allowed
+  allowed-state s h = rw (eq-eqb (length ws) 80 long, lt-ltb i 16 rule, lt-ltb s 320 h)
+
+  pub allowed-word : (s : ℕ) → s < 320 → eqb (getD ws (5 * i + s / 64) 0 / 2 ^ (s % 64) % 2) 1 ≡ allowed ws i s
+  unfolding at bit
+  allowed-word s h =
+      ap (λ (x : ℕ). eqb (x / 2 ^ (s % 64) % 2) 1) (sym (word-of ws i (s / 64) (omega arith))) ∙ sym (allowed-state s h)

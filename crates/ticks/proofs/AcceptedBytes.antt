@@ -1,0 +1,132 @@
+-- What the acceptance of bytes says of their trace.
+use Prim.Native.Nat.{ℕ, zero, suc, _+_, _≤_, _<_}
+use mathlib.Core.Path.{_≡_, refl, sym, subst}
+use mathlib.Core.Bool.{Bool, true, false, _&&_, _||_}
+use mathlib.Core.List.{List, [], _∷_}
+use native.Mathlib.Omega.{arith}
+use lib.ListN.{length, getD, List·getD-eq-default}
+use lib.Dec.{T, ltb, leb, eqb}
+use borrow.Author.Tests.{ltb-true, ltb-false, leb-true, eqb-true}
+use Rattle.refusals.specs.Refusals.{answer}
+use Rattle.bytes_le.specs.Numbers.{u16At}
+use Rattle.rules.specs.declared.Row.{Row}
+use Rattle.rules.specs.declared.Setting.{Setting}
+use Rattle.rules.specs.Table.{rows, rowAt}
+use Rattle.rules.specs.Limits.{off, limits, limitsAnswer, settingsOf}
+use Rattle.rules.specs.Limits as L
+use Rattle.rules.proofs.RuleSets.{time-small}
+use Rattle.trace.specs.Records.{Hole, Reply, Stamped, sampleWidth}
+use Rattle.trace.specs.Sections.{andThen, headAnswer, rulesAnswer, sectionAnswer, walkAnswer, rulesPart}
+use Rattle.trace.specs.Coverage.{holesAnswer, coverAnswer, repliesAnswer}
+use Rattle.trace.specs.Acceptance.{Whole, recordsAnswer, acceptAnswer}
+use Rattle.trace.specs.declared.Layout.{Layout}
+use Rattle.trace.proofs.Answers.{unless, where-true, answered}
+use Rattle.trace.proofs.Layouts.{laid}
+use Rattle.fillings.specs.Fillings.{Pack, SoundPack}
+use Rattle.fillings.proofs.Bools.{is-true}
+use Rattle.ticks.specs.Traces.{traceOf, Accepted}
+use Rattle.ticks.proofs.Tests.{and-true}
+
+-- Each check of an accepted trace.
+pub record Checks (s : List ℕ) (report verdicts : ℕ) (w : Whole) : Type 0 where
+  pub long : report ≡ 187
+  pub walked : walkAnswer s ≡ answer (w .layout)
+  pub counted : verdicts ≡ w .layout .«reply_count»
+  pub rules : L.rulesAnswer (w .layout .cells) (rulesPart s) ≡ answer tt
+  pub records : recordsAnswer s (w .layout) ≡ answer (w .ticks)
+  pub settings : w .settings ≡ settingsOf (rulesPart s)
+
+pub checks : (s : List ℕ) (report verdicts : ℕ) (w : Whole) → acceptAnswer s report verdicts ≡ answer w → Checks s report verdicts w
+unfolding acceptAnswer
+checks s report verdicts w h =
+    let a = where-true (eqb report 187) 12 0 _ h in
+    answered (walkAnswer s) _ _ (a .1) (λ l b h₁.
+    let c = where-true (eqb verdicts (l .«reply_count»)) 13 0 _ h₁ in
+    answered (L.rulesAnswer (l .cells) (rulesPart s)) _ _ (c .1) (λ u d h₂.
+    answered (recordsAnswer s l) _ _ h₂ (λ t f h₃.
+    let j : record { layout = l; settings = settingsOf (rulesPart s); ticks = t } ≡ w = cc in
+    rw (← j) (record { long = eqb-true report 187 (a .0); walked = b; counted = eqb-true verdicts (l .«reply_count») (c .0); rules = d; records = f; settings = refl }))))
+
+pub inverted : (s : List ℕ) (report verdicts : ℕ) (w : Whole) → acceptAnswer s report verdicts ≡ answer w
+    → (report ≡ 187) × (walkAnswer s ≡ answer (w .layout)) × (verdicts ≡ w .layout .«reply_count») × (w .settings ≡ settingsOf (rulesPart s))
+inverted s report verdicts w h =
+    let c = checks s report verdicts w h in
+    (c .long, c .walked, c .counted, c .settings)
+
+head-idle : (s : List ℕ) {u : Unit {0}} → headAnswer s ≡ answer u → u16At s 2 ≤ 32766
+unfolding headAnswer
+head-idle s h =
+    let a = unless (ltb (length s) 4) 1 0 _ h in
+    let b = where-true (eqb (getD s 0 0) 1) 2 0 _ (a .1) in
+    let c = unless (ltb (getD s 1 0) 3 || ltb 12 (getD s 1 0)) 3 0 _ (b .1) in
+    let d = unless (ltb 32766 (u16At s 2)) 4 0 _ (c .1) in
+    ltb-false 32766 (u16At s 2) (d .0)
+
+idle-small : (s : List ℕ) (l : Layout) → walkAnswer s ≡ answer l → l .idle ≤ 32766
+unfolding walkAnswer
+idle-small s l h =
+    answered (headAnswer s) _ _ h (λ u a h₁.
+    answered (rulesAnswer s) _ _ h₁ (λ v b h₂.
+    answered (sectionAnswer s 166 8) _ _ h₂ (λ x c h₃.
+    answered (sectionAnswer s (x .end) 10) _ _ h₃ (λ y d h₄.
+    answered (sectionAnswer s (y .end) (sampleWidth (getD s 1 0))) _ _ h₄ (λ z e h₅.
+    let q = where-true (eqb (z .end) (length s)) _ _ _ h₅ in
+    let j : laid s x y z ≡ l = cc in
+    rw (← j) (head-idle s a))))))
+
+-- The rules of an accepted rule set.
+limits-are : (n : ℕ) (rs : List Row) (ss : List Setting) (i : ℕ) → limitsAnswer n rs ss i ≡ answer tt
+    → (j : ℕ) (r : Row) (s : Setting) → j < length rs → j < length ss → limits n (getD rs j r) (getD ss j s) ≡ true
+unfolding limitsAnswer
+limits-are n [] ss i h j r s a b = absurd (omega arith)
+limits-are n (r′ ∷ rs) [] i h j r s a b = absurd (omega arith)
+limits-are n (r′ ∷ rs) (s′ ∷ ss) i h zero r s a b = where-true (limits n r′ s′) 7 i _ h .0
+limits-are n (r′ ∷ rs) (s′ ∷ ss) i h (suc j) r s a b =
+    limits-are n rs ss (suc i) (where-true (limits n r′ s′) 7 i _ h .1) j r s (omega arith) (omega arith)
+
+rules-sound : (n idle : ℕ) (bytes : List ℕ) → L.rulesAnswer n bytes ≡ answer tt → idle ≤ 32766 → SoundPack (record { cells = n; idle = idle; settings = settingsOf bytes })
+unfolding L.rulesAnswer
+rules-sound n idle bytes h k i l =
+    let a = where-true (leb 3 n && leb n 12) 3 0 _ h in
+    let b = and-true (leb 3 n) (leb n 12) (a .0) in
+    let c = where-true (eqb (length bytes) 160) 6 0 _ (a .1) in
+    record {
+      leastCells = leb-true 3 n (b .0);
+      mostCells = leb-true n 12 (b .1);
+      idle = k;
+      numbers = subst T (sym (limits-are n rows (settingsOf bytes) 0 (c .1) i _ _ l l)) tt;
+    }
+
+-- Records that are accepted.
+records-are : (hs : List Hole) (xs : List Stamped) (rs : List Reply) (m : ℕ)
+    → andThen (holesAnswer hs 0 0) (λ a. andThen (coverAnswer (length hs + length xs) hs xs 0) (λ t. andThen (repliesAnswer t rs 0 0) (λ b. answer t))) ≡ answer m
+    → (holesAnswer hs 0 0 ≡ answer tt) × (coverAnswer (length hs + length xs) hs xs 0 ≡ answer m) × (repliesAnswer m rs 0 0 ≡ answer tt)
+records-are hs xs rs m h =
+    answered (holesAnswer hs 0 0) _ _ h (λ u a h₁.
+    answered (coverAnswer (length hs + length xs) hs xs 0) _ _ h₁ (λ t b h₂.
+    answered (repliesAnswer t rs 0 0) _ _ h₂ (λ v c h₃.
+    let e : t ≡ m = cc in
+    (a, rw e at b, rw e at c))))
+
+pub accepted : (s : List ℕ) (report verdicts : ℕ) (w : Whole) → acceptAnswer s report verdicts ≡ answer w → Accepted (traceOf s w)
+accepted s report verdicts w h =
+    let c = checks s report verdicts w h in
+    let e = c .settings in
+    let tr = traceOf s w in
+    let (holes, covered, replies) = records-are (tr .holes) (tr .samples) (tr .replies) (w .ticks) (c .records) in
+    record {
+      rules = rw e (rules-sound (w .layout .cells) (w .layout .idle) (rulesPart s) (c .rules) (idle-small s (w .layout) (c .walked)));
+      holes = holes;
+      covered = covered;
+      replies = replies;
+    }
+
+pub short-times : (p : Pack) → SoundPack p → length (p .settings) ≤ 16 → (i : ℕ) → getD (p .settings) i off .time ≤ 255
+short-times p sound h i = go (ltb i 16) refl
+  where
+    go : (b : Bool) → ltb i 16 ≡ b → getD (p .settings) i off .time ≤ 255
+    go true e = time-small (p .cells) (rowAt i) (getD (p .settings) i off) (is-true _ (sound i (ltb-true i 16 e) .numbers))
+    go false e =
+        let l = ltb-false i 16 e in
+        let d : length (p .settings) ≤ i = omega arith in
+        rw (List·getD-eq-default (p .settings) off d) (omega arith)

@@ -1,0 +1,6 @@
+pub mod Tests
+pub mod AscendingHoles
+pub mod Places
+pub mod AcceptedBytes
+pub mod CoveredOnce
+pub mod Cuts

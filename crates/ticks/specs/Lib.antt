@@ -1,0 +1,3 @@
+pub mod Traces
+pub mod Cut
+pub mod Promises

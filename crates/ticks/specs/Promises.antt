@@ -1,0 +1,46 @@
+-- What is promised of the ticks of an accepted trace.
+use Prim.Native.Nat.{ℕ, suc, _+_, _-_, _≤_, _<_}
+use mathlib.Core.Path.{_≡_}
+use mathlib.Core.Bool.{Bool, false, not, _||_}
+use mathlib.Core.List.{List, [], _∷_}
+use lib.IntN.{ℤ}
+use lib.Dec.{T}
+use Rattle.refusals.specs.Refusals.{answer}
+use Rattle.trace.specs.Records.{Hole, Stamped}
+use Rattle.trace.specs.Acceptance.{Whole, acceptAnswer}
+use Rattle.fillings.specs.Charge.{inward, outward, chargeIn, chargeOut, unseenTicks}
+use Rattle.ticks.specs.Traces.{Trace, traceOf, shown, hasSample, inHole, Accepted}
+use Rattle.ticks.specs.Cut.{cutAt}
+
+-- A number summed over samples.
+unfoldable pub overSamples : (ℤ → ℕ) → List Stamped → ℕ
+overSamples f [] = 0
+overSamples f (x ∷ xs) = f (x .sample .current) + overSamples f xs
+
+-- The ticks of holes, counted.
+unfoldable pub overHoles : List Hole → ℕ
+overHoles [] = 0
+overHoles (h ∷ hs) = suc (h .last) - h .first + overHoles hs
+
+-- What coverage ensures of the ticks, and that the totals of the ticks are sums over the records.
+pub record CoveredOnce (tr : Trace) : Type 0 where
+  -- a covered tick has a sample or is in a hole, and not both
+  pub once : (t : ℕ) → t < tr .ticks → hasSample (tr .samples) t ≡ not (inHole (tr .holes) t)
+  -- no record has a later tick
+  pub none : (t : ℕ) → tr .ticks ≤ t → (hasSample (tr .samples) t ≡ false) × (inHole (tr .holes) t ≡ false)
+  pub chargedIn : chargeIn (shown tr) (tr .ticks) ≡ overSamples inward (tr .samples)
+  pub chargedOut : chargeOut (shown tr) (tr .ticks) ≡ overSamples outward (tr .samples)
+  pub unseen : unseenTicks (shown tr) (tr .ticks) ≡ overHoles (tr .holes)
+
+-- A missing second before the last record is refused unless declared: a trace with a record at a later tick u and neither sample nor hole at t is not accepted.
+abbrev pub MissingSecond : Type 0
+MissingSecond =
+    (s : List ℕ) (report verdicts : ℕ) (w : Whole) (t u : ℕ) → t < u
+    → T (hasSample (traceOf s w .samples) u || inHole (traceOf s w .holes) u)
+    → hasSample (traceOf s w .samples) t ≡ false → inHole (traceOf s w .holes) t ≡ false
+    → ¬ (acceptAnswer s report verdicts ≡ answer w)
+
+-- The trace cut at a covered tick is accepted and shows the same up to that tick.
+pub record CutHolds (tr : Trace) : Type 0 where
+  pub accepted : (t : ℕ) → t < tr .ticks → Accepted (cutAt tr t)
+  pub same : (t u : ℕ) → u ≤ t → shown (cutAt tr t) u ≡ shown tr u

@@ -1,0 +1,5 @@
+pub mod Currents
+pub mod RecordSums
+pub mod FewRecords
+pub mod NetBounds
+pub mod AcceptedTotals
