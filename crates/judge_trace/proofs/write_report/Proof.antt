@@ -1,0 +1,82 @@
+use Prim.Native.Nat.{_-_, _≤_}
+use mathlib.Core.Path.{_≡_, refl, sym, _∙_}
+use native.Mathlib.Omega.{arith}
+use lib.ListN.{length, length-set}
+use borrow.Author.Needs.{needs}
+use Rattle.judge_trace.proofs.write_report.Statement.{statement}
+use Rattle.judge_trace.proofs.write_report.Tie as tie
+
+abbrev Inv-loop : tie.InvT-loop
+Inv-loop report text₀ i₀ text i = (length text ≡ 375) × (i ≤ 187)
+
+abbrev μ-loop : tie.MeasureT-loop
+μ-loop report text₀ i₀ text i = 187 - i
+
+loop-holds : tie.Need-loop-holds Inv-loop μ-loop
+loop-holds c = (refl, omega arith)
+
+array-read-byte : tie.Need-array-read-byte Inv-loop μ-loop
+array-read-byte c = omega arith
+
+hex-digit-requires : tie.Need-hex-digit-requires Inv-loop μ-loop
+hex-digit-requires c κs = search needs
+
+mul-text : tie.Need-mul-text Inv-loop μ-loop
+mul-text c = omega arith
+
+array-write-text : tie.Need-array-write-text Inv-loop μ-loop
+array-write-text c = omega arith
+
+hex-digit-requires-2 : tie.Need-hex-digit-requires-2 Inv-loop μ-loop
+hex-digit-requires-2 c κs = search needs
+
+mul-text-2 : tie.Need-mul-text-2 Inv-loop μ-loop
+mul-text-2 c = omega arith
+
+add-text : tie.Need-add-text Inv-loop μ-loop
+add-text c = omega arith
+
+array-write-text-2 : tie.Need-array-write-text-2 Inv-loop μ-loop
+array-write-text-2 c = omega arith
+
+add-i : tie.Need-add-i Inv-loop μ-loop
+add-i c = omega arith
+
+loop-less : tie.Need-loop-less Inv-loop μ-loop
+loop-less c = omega arith
+
+loop-again : tie.Need-loop-again Inv-loop μ-loop
+loop-again c =
+    let h = c .before .before .loop-test .taken in
+    simp length-set (c .before .before .before .loop .inv .0, omega arith)
+
+slice-aggregate-write-all : tie.Need-slice-aggregate-write-all Inv-loop μ-loop
+slice-aggregate-write-all c = sym (c .before .before .loop .inv .0)
+
+write-all-requires : tie.Need-write-all-requires Inv-loop μ-loop
+write-all-requires c κs = search needs
+
+returns : tie.Need-returns Inv-loop μ-loop
+returns c = search needs
+
+pub write-report-spec : {M : Type 1} → statement M
+write-report-spec =
+    tie.close
+    (tie.spec
+    Inv-loop
+    μ-loop
+    loop-holds
+    array-read-byte
+    hex-digit-requires
+    mul-text
+    array-write-text
+    hex-digit-requires-2
+    mul-text-2
+    add-text
+    array-write-text-2
+    add-i
+    loop-less
+    loop-again
+    slice-aggregate-write-all
+    write-all-requires
+    returns)
