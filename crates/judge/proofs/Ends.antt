@@ -26,7 +26,7 @@ module _ {p : Pack} {holes replies samples : List ℕ} {m verdicts : ℕ} (g : P
       → x ≡ record { cursor = startOf holes samples (p .cells); alarms = alarmsOf (allFlags (p .settings) words) } → AtPoint p holes samples m x words firsts firsts
   point-start x words firsts w f e =
       let a : At p holes samples m (startOf holes samples (p .cells)) words firsts firsts =
-          record { stands = g .stands; known = known-start p samples words firsts (g .stands .short) w f } in
+      record { stands = g .stands; known = known-start p samples words firsts (g .stands .short) w f } in
       subst (λ (y : Point). AtPoint p holes samples m y words firsts firsts) (sym e) (record { there = a; alarms = alarms-known a _ refl })
 
   pub report-end : {words possible held : List ℕ} {t : Totals} (t′ : Totals) (report report′ : List ℕ) → Known p samples m words possible held → t ≡ t′

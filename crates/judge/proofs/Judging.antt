@@ -106,7 +106,7 @@ module _ {p : Pack} {holes samples replies : List ℕ} {m : ℕ} {words possible
       let six : j * 10 + 10 - (j * 10 + 4) ≡ 6 = omega arith in
       let tick : x′ .cursor .tick ≡ suc (u32At replies (j * 10)) = r .at ∙ t ∙ add-one _ in
       let is : v ≡ f reply =
-          e ∙ ap (λ (i : ℕ). verdictOf (x′ .cursor .shown) (x′ .alarms) (take i (drop (j * 10 + 4) replies))) six ∙ verdict-here _ _ _ _ _ _ _ x′ _ _ (r .there) tick in
+      e ∙ ap (λ (i : ℕ). verdictOf (x′ .cursor .shown) (x′ .alarms) (take i (drop (j * 10 + 4) replies))) six ∙ verdict-here _ _ _ _ _ _ _ x′ _ _ (r .there) tick in
       let split = reply-next replies (length replies / 10 - j) (j * 10) (some h) in
       let d : length replies / 10 - j - 1 ≡ length replies / 10 - (j + 1) = omega arith in
       let a : j * 10 + 10 ≡ (j + 1) * 10 = omega arith in

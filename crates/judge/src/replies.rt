@@ -79,7 +79,18 @@ fn reach(
     if to <= c.tick {
         return at;
     }
-    let cursor = advance(holes, samples, cells, idle, settings, c, to, words, possible, held);
+    let cursor = advance(
+        holes,
+        samples,
+        cells,
+        idle,
+        settings,
+        c,
+        to,
+        words,
+        possible,
+        held,
+    );
     Point {
         cursor,
         alarms: alarms_in(words, settings),
@@ -126,12 +137,34 @@ pub(crate) fn judge_replies(
     while j < verdicts.len() {
         let at = j * 10;
         let to = bytes_le::u32_at(replies, at) + 1;
-        x = reach(holes, samples, cells, idle, settings, x, to, words, possible, held);
+        x = reach(
+            holes,
+            samples,
+            cells,
+            idle,
+            settings,
+            x,
+            to,
+            words,
+            possible,
+            held,
+        );
         let c = x.cursor;
         let shown = c.shown;
         let alarms = x.alarms;
         verdicts[j] = verdict_on(shown, alarms, &replies[at + 4..at + 10]);
         j += 1;
     }
-    reach(holes, samples, cells, idle, settings, x, ticks, words, possible, held);
+    reach(
+        holes,
+        samples,
+        cells,
+        idle,
+        settings,
+        x,
+        ticks,
+        words,
+        possible,
+        held,
+    );
 }
