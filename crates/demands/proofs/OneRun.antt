@@ -11,7 +11,8 @@ use Rattle.rules.specs.Evaluation.{evaluated}
 use Rattle.trace.specs.Records.{Stamped}
 use Rattle.fillings.specs.Fillings.{Rule, Shown, filled, evaluate, after}
 use Rattle.ticks.specs.Traces.{Trace, shown, shownIn, Accepted}
-use Rattle.ticks.proofs.Places.{Place, done, sample, place-start, shown-first, shown-later}
+use Rattle.ticks.specs.Places.{Place, done, sample}
+use Rattle.ticks.proofs.Places.{place-start, shown-first, shown-later}
 use Rattle.demands.specs.Reading.{ruleIn, stateUnder}
 use Rattle.demands.specs.Demand2.{runFrom, runState}
 

@@ -14,7 +14,8 @@ use Rattle.ticks.specs.Traces.{Trace, traceOf, shownIn, hasSample, inHol
 use Rattle.ticks.specs.Promises.{overSamples, overHoles, CoveredOnce, MissingSecond}
 use Rattle.ticks.proofs.Tests.{by-order}
 use Rattle.ticks.proofs.AscendingHoles.{Ascending, ascending, none-in-holes}
-use Rattle.ticks.proofs.Places.{Place, done, hole, sample, place-start, place-low, none-before, no-sample-before, ascends-later, shown-first, shown-later}
+use Rattle.ticks.specs.Places.{Place, done, hole, sample}
+use Rattle.ticks.proofs.Places.{place-start, place-low, none-before, no-sample-before, ascends-later, shown-first, shown-later}
 use Rattle.ticks.proofs.AcceptedBytes.{accepted}
 
 -- A tick in the next hole, and one after it.

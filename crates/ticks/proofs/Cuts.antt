@@ -17,7 +17,8 @@ use Rattle.ticks.specs.Cut.{cutHoles, cutReplies, cutSamples}
 use Rattle.ticks.specs.Promises.{CutHolds}
 use Rattle.ticks.proofs.Tests.{by-order, or-false}
 use Rattle.ticks.proofs.AscendingHoles.{Ascending, ascending, in-order, lower}
-use Rattle.ticks.proofs.Places.{NotYet, Place, done, hole, sample, place-start, no-sample-before, not-yet, ascends-later}
+use Rattle.ticks.specs.Places.{NotYet, Place, done, hole, sample}
+use Rattle.ticks.proofs.Places.{place-start, no-sample-before, not-yet, ascends-later}
 
 cut-ascends : (t : ℕ) (hs : List Hole) (low : ℕ) → Ascending low hs → Ascending low (cutHoles t hs)
 unfolding cutHoles

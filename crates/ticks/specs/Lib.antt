@@ -1,3 +1,4 @@
 pub mod Traces
 pub mod Cut
 pub mod Promises
+pub mod Places
