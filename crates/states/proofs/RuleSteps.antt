@@ -16,7 +16,7 @@ use Rattle.rules.specs.Evaluation.{trips, clears, top, evaluated}
 use Rattle.fillings.specs.PossibleStates.{found, next, unseenTimes}
 use Rattle.fillings.specs.Demand3.{evaluations}
 use Rattle.states.specs.Records.{statesOf, wordsOf, ruleWords, recordWith}
-use Rattle.states.proofs.EachRule.{Moving, moving-read, moving-next, moving-end}
+use Rattle.states.proofs.EachRule.{rule-moves, Moving, moving-read, moving-next, moving-end}
 use Rattle.states.specs.Steps.{settingOf, movesAt, seenWords, afterSeen, evaluationsOf, movesBetween, unseenWords, afterUnseen}
 
 pub positive : (t : ℕ) → (t ≡ 0 → ⊥) → 0 < t
@@ -43,6 +43,14 @@ seen-words idle r s i ws row f m er ef em =
     ap (λ (x : ℕ). wordsOf (next x (found (f .trips) (f .clears)) (statesOf (ruleWords ws i) x))) em
     ∙ ap (λ (x : Found). wordsOf (next (top (s .time)) (found (x .trips) (x .clears)) (statesOf (ruleWords ws i) (top (s .time))))) ef
     ∙ ap (λ (x : Row). wordsOf (next (top (s .time)) (found (trips idle x s r) (clears x s r)) (statesOf (ruleWords ws i) (top (s .time))))) er
+
+pub seen-moves : (idle tick i m : ℕ) (r : Readings) (s : Setting) (ws out : List ℕ) (row : Row) (f : Found) (b : Bool) → row ≡ rowAt i → (s .time ≡ 0 → ⊥)
+    → b ≡ evaluated row tick → b ≡ true → f ≡ record { trips = trips idle row s r; clears = clears row s r } → m ≡ top (s .time)
+    → out ≡ recordWith (λ j. eqb j i) (λ j. wordsOf (next m (found (f .trips) (f .clears)) (statesOf (ruleWords ws i) m))) ws
+    → out ≡ recordWith (λ j. eqb j i && movesAt tick s i) (λ j. seenWords idle r s i ws) ws
+seen-moves idle tick i m r s ws out row f b er n eb e ef em o =
+    rule-moves (movesAt tick s i) (wordsOf (next m (found (f .trips) (f .clears)) (statesOf (ruleWords ws i) m))) (seenWords idle r s i ws) ws out i
+    (on-moves (s .time) (evaluated (rowAt i) tick) n (evaluated-here i tick row er eb e)) o (seen-words idle r s i ws row f m er ef em)
 
 pub seen-read : (idle : ℕ) (r : Readings) (s : Setting) (i : ℕ) (ws vs : List ℕ) → ruleWords ws i ≡ ruleWords vs i → seenWords idle r s i ws ≡ seenWords idle r s i vs
 seen-read idle r s i ws vs e =

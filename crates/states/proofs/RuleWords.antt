@@ -5,10 +5,12 @@ use mathlib.Core.List.{List, [], _∷_}
 use mathlib.Core.Bool.{Bool, true, false, cond, _&&_, _||_}
 use mathlib.Core.Logic.{_⊎_, ⊎-elim}
 use native.Mathlib.Omega.{arith}
+use native.Mathlib.Numerals.{add-one}
 use lib.Dec.{eqb}
 use lib.ListN.{getD, length, set, take, drop, length-set, length-take, length-drop}
 use lib.Seq.{getD-take, getD-drop, getD-set-same, getD-set-other, ext-getD}
 use borrow.Author.Tests.{eq-eqb, ne-eqb}
+use borrow.Author.Count.{below-more}
 use Rattle.fillings.specs.PossibleStates.{tabulate}
 use Rattle.fillings.proofs.Bools.{length-tabulate}
 use Rattle.states.specs.Records.{ruleWords, recordWith}
@@ -19,34 +21,40 @@ getD-tabulate zero f d i h = absurd (omega arith)
 getD-tabulate (suc n) f d zero h = refl
 getD-tabulate (suc n) f d (suc i) h = getD-tabulate n (λ j. f (suc j)) d i (omega arith)
 
-five : (l : List ℕ) → length l ≡ 5 → l ≡ getD l 0 0 ∷ getD l 1 0 ∷ getD l 2 0 ∷ getD l 3 0 ∷ getD l 4 0 ∷ []
-five (a ∷ b ∷ c ∷ d ∷ e ∷ []) h = refl
-five [] h = absurd (omega arith)
-five (a ∷ []) h = absurd (omega arith)
-five (a ∷ b ∷ []) h = absurd (omega arith)
-five (a ∷ b ∷ c ∷ []) h = absurd (omega arith)
-five (a ∷ b ∷ c ∷ d ∷ []) h = absurd (omega arith)
-five (a ∷ b ∷ c ∷ d ∷ e ∷ f ∷ l) h = absurd (omega arith)
-
 part : (ws : List ℕ) (k j : ℕ) → j < 5 → getD (take 5 (drop k ws)) j 0 ≡ getD ws (k + j) 0
 part ws k j h = getD-take 5 (drop k ws) j 0 h ∙ getD-drop k ws j 0
 
 pub part-length : (ws : List ℕ) (k : ℕ) → k + 5 ≤ length ws → length (take 5 (drop k ws)) ≡ 5
 part-length ws k h = simp (length-take, length-drop) (omega arith)
 
--- Five words read one by one are the part of the record.
-pub loaded : (ws : List ℕ) (k : ℕ) → k + 5 ≤ length ws
-    → getD ws k 0 ∷ getD ws (k + 1) 0 ∷ getD ws (k + 2) 0 ∷ getD ws (k + 3) 0 ∷ getD ws (k + 4) 0 ∷ [] ≡ take 5 (drop k ws)
-loaded ws k h =
-    let l : List ℕ = take 5 (drop k ws) in
-    let z : k + 0 ≡ k = omega arith in
-    let w : l ≡ getD l 0 0 ∷ getD l 1 0 ∷ getD l 2 0 ∷ getD l 3 0 ∷ getD l 4 0 ∷ [] = five l (part-length ws k h) in
-    let e0 : getD l 0 0 ≡ getD ws k 0 = part ws k 0 (omega arith) ∙ ap (λ (x : ℕ). getD ws x 0) z in
-    let e1 : getD l 1 0 ≡ getD ws (k + 1) 0 = part ws k 1 (omega arith) in
-    let e2 : getD l 2 0 ≡ getD ws (k + 2) 0 = part ws k 2 (omega arith) in
-    let e3 : getD l 3 0 ≡ getD ws (k + 3) 0 = part ws k 3 (omega arith) in
-    let e4 : getD l 4 0 ≡ getD ws (k + 4) 0 = part ws k 4 (omega arith) in
-    sym (w ∙ (cc))
+-- The loop that reads the words of rule i: those below j are read.
+pub record Loading (ws : List ℕ) (i : ℕ) (w : List ℕ) (j : ℕ) : Type 0 where
+  pub rule : i < 16
+  pub record-long : length ws ≡ 80
+  pub within : j ≤ 5
+  pub long : length w ≡ 5
+  pub read : (p : ℕ) → p < j → getD w p 0 ≡ getD ws (5 * i + p) 0
+
+pub loading-start : (ws : List ℕ) (i : ℕ) (w : List ℕ) → length ws ≡ 80 → i < 16 → length w ≡ 5 → Loading ws i w 0
+loading-start ws i w l h m = record { rule = h; record-long = l; within = omega arith; long = m; read = λ p g. absurd (omega arith) }
+
+pub loading-next : (ws : List ℕ) (i : ℕ) (w : List ℕ) (j : ℕ) → Loading ws i w j → j < 5 → Loading ws i (set w j (getD ws (5 * i + j) 0)) (j + 1)
+loading-next ws i w j g h = record {
+  rule = g .rule;
+  record-long = g .record-long;
+  within = omega arith;
+  long = length-set w j x ∙ g .long;
+  read = below-more _ j (λ p l. getD-set-other w j p x 0 (λ e. omega arith) ∙ g .read p l) (getD-set-same w j x 0 (omega (arith, g .long)));
+}
+  where
+    x : ℕ
+    x = getD ws (5 * i + j) 0
+
+pub loading-end : (ws : List ℕ) (i : ℕ) (w : List ℕ) (j : ℕ) → Loading ws i w j → 5 ≤ j → w ≡ ruleWords ws i
+loading-end ws i w j g h =
+    let l : length (ruleWords ws i) ≡ 5 = part-length ws (5 * i) (omega (arith, g .rule, g .record-long)) in
+    ext-getD 0 w (ruleWords ws i) (g .long ∙ sym l) (λ p d.
+    let e : p < 5 = omega (arith, g .long) in g .read p (omega arith) ∙ sym (part ws (5 * i) p e))
 
 -- What a record with new words holds at each place.
 pub record-length : (c : ℕ → Bool) (new : ℕ → List ℕ) (ws : List ℕ) → length (recordWith c new ws) ≡ 80
@@ -59,7 +67,7 @@ unfolding recordWith
 record-at c new ws k h = getD-tabulate 80 (λ k. cond (c (k / 5)) (getD (new (k / 5)) (k % 5) 0) (getD ws k 0)) 0 k h
 
 -- n words stored from place b on.
-abbrev stores : List ℕ → ℕ → List ℕ → ℕ → List ℕ
+abbrev pub stores : List ℕ → ℕ → List ℕ → ℕ → List ℕ
 stores ws b w zero = ws
 stores ws b w (suc n) = set (stores ws b w n) (b + n) (getD w n 0)
 
@@ -99,13 +107,29 @@ stores-record ws i w h l =
     ∙ sym (record-at (λ j. eqb j i) (λ j. w) ws k g′ ∙ ap (λ (b : Bool). cond b (getD w (k % 5) 0) (getD ws k 0)) (ne-eqb (k / 5) i n)))
     (equal? (k / 5) i))
 
-pub stored : (ws : List ℕ) (i : ℕ) (w : List ℕ) → i < 16 → length ws ≡ 80
-    → set (set (set (set (set ws (5 * i) (getD w 0 0)) (5 * i + 1) (getD w 1 0)) (5 * i + 2) (getD w 2 0)) (5 * i + 3) (getD w 3 0)) (5 * i + 4) (getD w 4 0)
-    ≡ recordWith (λ j. eqb j i) (λ j. w) ws
-stored ws i w h l =
-    let z : 5 * i ≡ 5 * i + 0 = omega arith in
-    ap
-    (λ (x : ℕ).
-    set (set (set (set (set ws x (getD w 0 0)) (5 * i + 1) (getD w 1 0)) (5 * i + 2) (getD w 2 0)) (5 * i + 3) (getD w 3 0)) (5 * i + 4) (getD w 4 0))
-    z
-    ∙ stores-record ws i w h l
+-- The loop that stores the words of rule i: those below j are stored.
+pub record Storing (ws₀ : List ℕ) (i : ℕ) (w ws : List ℕ) (j : ℕ) : Type 0 where
+  pub rule : i < 16
+  pub record-long : length ws₀ ≡ 80
+  pub within : j ≤ 5
+  pub long : length ws ≡ 80
+  pub holds : ws ≡ stores ws₀ (5 * i) w j
+
+pub storing-start : (ws : List ℕ) (i : ℕ) (w : List ℕ) → length ws ≡ 80 → i < 16 → Storing ws i w ws 0
+storing-start ws i w l h = record { rule = h; record-long = l; within = omega arith; long = l; holds = refl }
+
+pub storing-next : (ws₀ : List ℕ) (i : ℕ) (w ws : List ℕ) (j : ℕ) → Storing ws₀ i w ws j → j < 5
+    → Storing ws₀ i w (set ws (5 * i + j) (getD w j 0)) (j + 1)
+storing-next ws₀ i w ws j g h = record {
+  rule = g .rule;
+  record-long = g .record-long;
+  within = omega arith;
+  long = length-set ws (5 * i + j) (getD w j 0) ∙ g .long;
+  holds = ap (λ (x : List ℕ). set x (5 * i + j) (getD w j 0)) (g .holds) ∙ ap (stores ws₀ (5 * i) w) (sym (add-one j));
+}
+
+pub storing-end : (ws₀ : List ℕ) (i : ℕ) (w ws : List ℕ) (j : ℕ) → Storing ws₀ i w ws j → 5 ≤ j
+    → ws ≡ recordWith (λ j. eqb j i) (λ j. w) ws₀
+storing-end ws₀ i w ws j g h =
+    let l : j ≤ 5 = g .within in
+    let e : j ≡ 5 = omega arith in g .holds ∙ ap (stores ws₀ (5 * i) w) e ∙ stores-record ws₀ i w (g .rule) (g .record-long)

@@ -3,17 +3,12 @@ use Prim.Native.Nat.{ℕ, _+_, _/_, _%_, _^_, _<_}
 use mathlib.Core.Path.{_≡_}
 use mathlib.Core.Bool.{Bool, false, cond, _&&_, _||_}
 use mathlib.Core.List.{List}
-use lib.Bits.{bitOr}
 use lib.Dec.{ltb, eqb}
 use Rattle.states.specs.Records.{at}
 
 -- Word j without the bits from t on.
 unfoldable pub belowWord : ℕ → ℕ → ℕ → ℕ
 belowWord t j x = cond (ltb j (t / 64)) x (cond (eqb j (t / 64)) (x % 2 ^ (t % 64)) 0)
-
--- Word j with bit p set, if `on` says so.
-unfoldable pub withWord : ℕ → Bool → ℕ → ℕ → ℕ
-withWord p on j x = cond (on && eqb j (p / 64)) (bitOr x (2 ^ (p % 64))) x
 
 -- The words w without the bits from t on.
 pub record Below (w : List ℕ) (t : ℕ) (r : List ℕ) : Type 0 where

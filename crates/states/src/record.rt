@@ -12,13 +12,13 @@ pub(crate) fn load(words: &[u64], i: usize) -> [u64; 5]
     ensures { λ r. ⌜ r ≡ ruleWords (now (words .entry)) i ⌝ }
 {
     let k = 5 * i;
-    [
-        words[k],
-        words[k + 1],
-        words[k + 2],
-        words[k + 3],
-        words[k + 4],
-    ]
+    let mut w: [u64; 5] = [0; 5];
+    let mut j: usize = 0;
+    while j < 5 {
+        w[j] = words[k + j];
+        j += 1;
+    }
+    w
 }
 
 pub(crate) fn store(words: &mut [u64], i: usize, w: [u64; 5])
@@ -26,11 +26,11 @@ pub(crate) fn store(words: &mut [u64], i: usize, w: [u64; 5])
     ensures { λ _. ⌜ now (words .exit) ≡ recordWith (λ j. eqb j i) (λ j. w) (now (words .entry)) ⌝ }
 {
     let k = 5 * i;
-    words[k] = w[0];
-    words[k + 1] = w[1];
-    words[k + 2] = w[2];
-    words[k + 3] = w[3];
-    words[k + 4] = w[4];
+    let mut j: usize = 0;
+    while j < 5 {
+        words[k + j] = w[j];
+        j += 1;
+    }
 }
 
 // Moves one rule.

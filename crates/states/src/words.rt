@@ -1,13 +1,12 @@
 // A set of the states of one rule as five words: state s is bit s.
 ghost use mathlib.Core.Path.{_≡_};
-ghost use mathlib.Core.Bool.{_&&_, _||_};
 ghost use Prim.Native.Nat.{_<_, _≤_};
 ghost use lib.ListN.{getD};
 ghost use Rattle.fillings.specs.PossibleStates.{someBelow, next, unseenTimes};
 ghost use Rattle.rules.specs.Evaluation.{top, alert, status};
 ghost use Rattle.fillings.specs.Flags.{flag};
 ghost use Rattle.states.specs.Records.{at, statesOf, wordsOf};
-ghost use Rattle.states.specs.Words.{belowWord, withWord, Below, Up, Raised, With, Alerting};
+ghost use Rattle.states.specs.Words.{belowWord, Below, Up, Raised, With, Alerting};
 use flags::Flag;
 
 const HALF: u64 = 9223372036854775808;
@@ -19,37 +18,11 @@ pub(crate) fn top_for(time: u8) -> usize
     rules::top_of(time)
 }
 
-fn and(a: bool, b: bool) -> bool
-    ensures { λ r. ⌜ r ≡ (a && b) ⌝ }
-{
-    if a { b } else { false }
-}
-
-fn or(a: bool, b: bool) -> bool
-    ensures { λ r. ⌜ r ≡ (a || b) ⌝ }
-{
-    if a { true } else { b }
-}
-
-// Word q. Each word stands at a fixed place, so that the words stay in registers.
-fn word(w: [u64; 5], q: usize) -> u64
-    requires { ⌜ q < 5 ⌝ }
-    ensures { λ x. ⌜ x ≡ getD w q 0 ⌝ }
-{
-    match q {
-        0 => w[0],
-        1 => w[1],
-        2 => w[2],
-        3 => w[3],
-        _ => w[4],
-    }
-}
-
 fn test(w: [u64; 5], p: usize) -> bool
     requires { ⌜ p < 320 ⌝ }
     ensures { λ r. ⌜ r ≡ at w p ⌝ }
 {
-    (word(w, p / 64) >> (p % 64)) % 2 == 1
+    (w[p / 64] >> (p % 64)) % 2 == 1
 }
 
 fn below_word(x: u64, j: usize, t: usize) -> u64
@@ -92,27 +65,15 @@ fn up_one(mut w: [u64; 5]) -> [u64; 5]
     w
 }
 
-fn with_word(x: u64, j: usize, p: usize, on: bool) -> u64
-    ensures { λ y. ⌜ y ≡ withWord p on j x ⌝ }
-{
-    if on {
-        if j == p / 64 {
-            return x | (1 << (p % 64));
-        }
-    }
-    x
-}
-
 // The states with state p, if `on` says so.
 fn with_state(mut w: [u64; 5], p: usize, on: bool) -> [u64; 5]
     requires { ⌜ p < 320 ⌝ }
     ensures { λ r. ⌜ With w p on r ⌝ }
 {
-    let mut i: usize = 0;
-    while i < 5 {
-        let x = w[i];
-        w[i] = with_word(x, i, p, on);
-        i += 1;
+    if on {
+        let k = p / 64;
+        w[k] = w[k] | (1 << (p % 64));
+        return w;
     }
     w
 }
@@ -152,8 +113,8 @@ pub(crate) fn moved(
     let held = test(w, top);
     let low = below(w, top);
     let counted = raised(low, up);
-    let kept = with_state(counted, top, and(stay, held));
-    let zero = or(and(restart, some(low)), and(leave, held));
+    let kept = with_state(counted, top, stay & held);
+    let zero = restart & some(low) | leave & held;
     with_state(kept, 0, zero)
 }
 

@@ -1,75 +1,69 @@
-use Prim.Native.Nat.{_*_}
+use Prim.Native.Nat.{_-_}
+use mathlib.Core.Path.{refl}
 use native.Mathlib.Omega.{arith}
-use Rattle.states.proofs.RuleWords.{loaded}
-use borrow.Author.Needs.{needs}
+use Rattle.states.proofs.RuleWords.{Loading, loading-start, loading-next, loading-end}
 use Rattle.states.proofs.record.load.Statement.{statement}
 use Rattle.states.proofs.record.load.Tie as tie
 
-mul-k : tie.Need-mul-k
-mul-k c = search needs
+abbrev Inv-loop : tie.InvT-loop
+Inv-loop words i k w₀ j₀ w j = Loading words i w j
 
-mul-t4 : tie.Need-mul-t4
-mul-t4 c = search needs
+abbrev μ-loop : tie.MeasureT-loop
+μ-loop words i k w₀ j₀ w j = 5 - j
 
-shared-slice-read-t6 : tie.Need-shared-slice-read-t6
-shared-slice-read-t6 c = search needs
+mul-k : tie.Need-mul-k Inv-loop μ-loop
+mul-k c = omega arith
 
-add-t7 : tie.Need-add-t7
-add-t7 c = search needs
+loop-holds : tie.Need-loop-holds Inv-loop μ-loop
+loop-holds c = loading-start (c .args .words .now) (c .args .i) _ (c .pre .0) (c .pre .1) refl
 
-mul-t8 : tie.Need-mul-t8
-mul-t8 c = search needs
+add-w : tie.Need-add-w Inv-loop μ-loop
+add-w c = omega arith
 
-shared-slice-read-t10 : tie.Need-shared-slice-read-t10
-shared-slice-read-t10 c = search needs
+mul-w : tie.Need-mul-w Inv-loop μ-loop
+mul-w c = omega arith
 
-add-t11 : tie.Need-add-t11
-add-t11 c = search needs
+shared-slice-read-w : tie.Need-shared-slice-read-w Inv-loop μ-loop
+shared-slice-read-w c = omega arith
 
-mul-t12 : tie.Need-mul-t12
-mul-t12 c = search needs
+mul-w-2 : tie.Need-mul-w-2 Inv-loop μ-loop
+mul-w-2 c = omega arith
 
-shared-slice-read-t14 : tie.Need-shared-slice-read-t14
-shared-slice-read-t14 c = search needs
+array-write-w : tie.Need-array-write-w Inv-loop μ-loop
+array-write-w c = omega arith
 
-add-t15 : tie.Need-add-t15
-add-t15 c = search needs
+add-j : tie.Need-add-j Inv-loop μ-loop
+add-j c = omega arith
 
-mul-t16 : tie.Need-mul-t16
-mul-t16 c = search needs
+loop-less : tie.Need-loop-less Inv-loop μ-loop
+loop-less c = omega arith
 
-shared-slice-read-t18 : tie.Need-shared-slice-read-t18
-shared-slice-read-t18 c = search needs
+loop-again : tie.Need-loop-again Inv-loop μ-loop
+loop-again c =
+    let a = c .before .before .before .args in
+    let l = c .before .before .loop in
+    loading-next (a .words .now) (a .i) (l .w) (l .j) (l .inv) (c .before .loop-test .taken)
 
-add-t19 : tie.Need-add-t19
-add-t19 c = search needs
-
-mul-t20 : tie.Need-mul-t20
-mul-t20 c = search needs
-
-shared-slice-read-t22 : tie.Need-shared-slice-read-t22
-shared-slice-read-t22 c = search needs
-
-returns : tie.Need-returns
-returns c = loaded (c .before .before .before .before .before .args .words .now) (5 * c .before .before .before .before .before .args .i) (omega arith)
+returns : tie.Need-returns Inv-loop μ-loop
+returns c =
+    let a = c .before .before .args in
+    let l = c .before .loop in
+    loading-end (a .words .now) (a .i) (l .w) (l .j) (l .inv) (c .loop-test .left)
 
 pub load-spec : {M : Type 1} → statement M
 load-spec =
     tie.close
     (tie.spec
+    Inv-loop
+    μ-loop
     mul-k
-    mul-t4
-    shared-slice-read-t6
-    add-t7
-    mul-t8
-    shared-slice-read-t10
-    add-t11
-    mul-t12
-    shared-slice-read-t14
-    add-t15
-    mul-t16
-    shared-slice-read-t18
-    add-t19
-    mul-t20
-    shared-slice-read-t22
+    loop-holds
+    add-w
+    mul-w
+    shared-slice-read-w
+    mul-w-2
+    array-write-w
+    add-j
+    loop-less
+    loop-again
     returns)

@@ -1,99 +1,73 @@
+use Prim.Native.Nat.{_-_}
+use mathlib.Core.Path.{sym, _∙_}
 use native.Mathlib.Omega.{arith}
-use lib.ListN.{length-set}
-use Rattle.states.proofs.RuleWords.{stored}
-use borrow.Author.Needs.{needs}
+use Rattle.states.proofs.RuleWords.{Storing, storing-start, storing-next, storing-end}
 use Rattle.states.proofs.record.store.Statement.{statement}
 use Rattle.states.proofs.record.store.Tie as tie
 
-mul-k : tie.Need-mul-k
-mul-k c = search needs
+abbrev Inv-loop : tie.InvT-loop
+Inv-loop words₀ i w k j₀ words j = Storing words₀ i w words j
 
-array-read-words : tie.Need-array-read-words
-array-read-words c = search needs
+abbrev μ-loop : tie.MeasureT-loop
+μ-loop words₀ i w k j₀ words j = 5 - j
 
-mul-words : tie.Need-mul-words
-mul-words c = search needs
+mul-k : tie.Need-mul-k Inv-loop μ-loop
+mul-k c = omega arith
 
-slice-write-words : tie.Need-slice-write-words
-slice-write-words c = search needs
+loop-holds : tie.Need-loop-holds Inv-loop μ-loop
+loop-holds c = storing-start (c .args .words .now) (c .args .i) (c .args .t3) (c .pre .0) (c .pre .1)
 
-array-read-words-2 : tie.Need-array-read-words-2
-array-read-words-2 c = search needs
+mul-words : tie.Need-mul-words Inv-loop μ-loop
+mul-words c = omega arith
 
-add-words : tie.Need-add-words
-add-words c = search needs
+array-read-words : tie.Need-array-read-words Inv-loop μ-loop
+array-read-words c = omega arith
 
-mul-words-2 : tie.Need-mul-words-2
-mul-words-2 c = search needs
+add-words : tie.Need-add-words Inv-loop μ-loop
+add-words c = omega arith
 
-slice-write-words-2 : tie.Need-slice-write-words-2
-slice-write-words-2 c = simp length-set (omega arith)
+mul-words-2 : tie.Need-mul-words-2 Inv-loop μ-loop
+mul-words-2 c = omega arith
 
-array-read-words-3 : tie.Need-array-read-words-3
-array-read-words-3 c = search needs
+slice-write-words : tie.Need-slice-write-words Inv-loop μ-loop
+slice-write-words c = omega arith
 
-add-words-2 : tie.Need-add-words-2
-add-words-2 c = search needs
+add-j : tie.Need-add-j Inv-loop μ-loop
+add-j c = omega arith
 
-mul-words-3 : tie.Need-mul-words-3
-mul-words-3 c = search needs
+loop-less : tie.Need-loop-less Inv-loop μ-loop
+loop-less c = omega arith
 
-slice-write-words-3 : tie.Need-slice-write-words-3
-slice-write-words-3 c = simp length-set (omega arith)
+loop-again : tie.Need-loop-again Inv-loop μ-loop
+loop-again c =
+    let a = c .before .before .args in
+    let l = c .before .loop in
+    storing-next (a .words .now) (a .i) (a .t3) (l .words) (l .j) (l .inv) (c .loop-test .taken)
 
-array-read-words-4 : tie.Need-array-read-words-4
-array-read-words-4 c = search needs
+same-length : tie.Need-same-length Inv-loop μ-loop
+same-length c = c .before .loop .inv .long ∙ sym (c .before .loop .inv .record-long)
 
-add-words-3 : tie.Need-add-words-3
-add-words-3 c = search needs
-
-mul-words-4 : tie.Need-mul-words-4
-mul-words-4 c = search needs
-
-slice-write-words-4 : tie.Need-slice-write-words-4
-slice-write-words-4 c = simp length-set (omega arith)
-
-array-read-words-5 : tie.Need-array-read-words-5
-array-read-words-5 c = search needs
-
-add-words-4 : tie.Need-add-words-4
-add-words-4 c = search needs
-
-mul-words-5 : tie.Need-mul-words-5
-mul-words-5 c = search needs
-
-slice-write-words-5 : tie.Need-slice-write-words-5
-slice-write-words-5 c = simp length-set (omega arith)
-
-same-length : tie.Need-same-length
-same-length c = search needs
-
-returns : tie.Need-returns
-returns c = stored (c .args .words .now) (c .args .i) (c .args .t3) (c .pre .1) (c .pre .0)
+returns : tie.Need-returns Inv-loop μ-loop
+returns c =
+    let a = c .before .before .args in
+    let l = c .before .loop in
+    storing-end (a .words .now) (a .i) (a .t3) (l .words) (l .j) (l .inv) (c .loop-test .left)
 
 pub store-spec : {M : Type 1} → statement M
 store-spec =
     tie.close
     (tie.spec
+    Inv-loop
+    μ-loop
     mul-k
-    array-read-words
+    loop-holds
     mul-words
-    slice-write-words
-    array-read-words-2
+    array-read-words
     add-words
     mul-words-2
-    slice-write-words-2
-    array-read-words-3
-    add-words-2
-    mul-words-3
-    slice-write-words-3
-    array-read-words-4
-    add-words-3
-    mul-words-4
-    slice-write-words-4
-    array-read-words-5
-    add-words-4
-    mul-words-5
-    slice-write-words-5
+    slice-write-words
+    add-j
+    loop-less
+    loop-again
     same-length
     returns)

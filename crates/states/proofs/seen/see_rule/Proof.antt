@@ -5,8 +5,8 @@ use Rattle.rules.specs.Table.{rowAt}
 use Rattle.rules.specs.Evaluation.{evaluated}
 use Rattle.states.specs.Steps.{movesAt}
 use Rattle.states.proofs.Tops.{top-pos}
-use Rattle.states.proofs.EachRule.{rule-stays, rule-moves}
-use Rattle.states.proofs.RuleSteps.{off-stays, idle-stays, on-moves, evaluated-here, seen-words}
+use Rattle.states.proofs.EachRule.{rule-stays}
+use Rattle.states.proofs.RuleSteps.{off-stays, idle-stays, evaluated-here, seen-moves}
 use Rattle.states.proofs.seen.see_rule.Statement.{statement}
 use Rattle.states.proofs.seen.see_rule.Tie as tie
 
@@ -33,13 +33,15 @@ same-length c = search needs
 
 returns-2 : tie.Need-returns-2
 returns-2 c =
-    let a = c .before .before .before .before .before .before .before .before .before .before .before .before .args in
-    let row = c .before .before .before .before .before .before .before .before .before .before .before .before .pre .1 .1 in
-    rule-moves _ _ _ _ _ _
-    (on-moves _ _ (c .before .before .before .before .before .before .before .before .before .before .if1 .left) (evaluated-here (a .i) (a .tick) (a .row) row (c .before .before .before .before .before .before .before .before .before .evaluated-at .ensures) (c .before .before .before .before .before .before .before .before .if2 .taken)))
-    (c .before .before .move-rule .ensures)
-    (seen-words (a .idle) (a .readings) (a .setting) (a .i) (a .words .now) (a .row) (c .before .before .before .before .before .before .before .evaluate .result) (c .before .before .before .before .before .before .top-for .result) row
-    (c .before .before .before .before .before .before .before .evaluate .ensures) (c .before .before .before .before .before .before .top-for .ensures .0))
+    let move = c .before .before in
+    let found = move .before .before .before .before in
+    let tested = found .before .before in
+    let on = tested .before .before in
+    let start = on .before .before in
+    let a = start .args in
+    seen-moves (a .idle) (a .tick) (a .i) (found .top-for .result) (a .readings) (a .setting) (a .words .now) (move .move-rule .last .0) (a .row) (found .before .evaluate .result)
+    (tested .before .evaluated-at .result) (start .pre .1 .1) (on .if1 .left) (tested .before .evaluated-at .ensures) (tested .if2 .taken) (found .before .evaluate .ensures)
+    (found .top-for .ensures .0) (move .move-rule .ensures)
 
 returns-3 : tie.Need-returns-3
 returns-3 c =

@@ -1,5 +1,5 @@
 use Prim.Native.Nat.{ℕ}
-use mathlib.Core.Path.{_≡_, ap, ap₂, _∙_}
+use mathlib.Core.Path.{ap}
 use mathlib.Core.Bool.{Bool, _&&_, _||_}
 use lib.ListN.{getD}
 use mir.Val.{Fits}
@@ -18,23 +18,11 @@ below-requires c κs = search needs
 raised-requires : tie.Need-raised-requires
 raised-requires c κs = search needs
 
-and-requires : tie.Need-and-requires
-and-requires c κs = search needs
-
 with-state-requires : tie.Need-with-state-requires
 with-state-requires c κs = search needs
 
 some-requires : tie.Need-some-requires
 some-requires c κs = search needs
-
-and-requires-2 : tie.Need-and-requires-2
-and-requires-2 c κs = search needs
-
-and-requires-3 : tie.Need-and-requires-3
-and-requires-3 c κs = search needs
-
-or-requires : tie.Need-or-requires
-or-requires c κs = search needs
 
 with-state-requires-2 : tie.Need-with-state-requires-2
 with-state-requires-2 c κs = search needs
@@ -44,19 +32,20 @@ fits c j = search needs
 
 returns : tie.Need-returns
 returns c =
-    let counting = c .before .before .before .before .before in
-    let start = counting .before .before .before .before .before in
+    let counting = c .before .before in
+    let start = counting .before .before .before .before in
     let a = start .args in
-    let held = counting .before .before .before .before .test .ensures in
-    let low = counting .before .before .before .below in
-    let up = counting .before .before .raised in
+    let held = counting .before .before .before .test in
+    let low = counting .before .before .below in
+    let up = counting .before .raised in
     let kept = counting .with-state in
-    let some = c .before .before .before .before .some in
+    let some = c .before .some in
     moved-made (a .w) (low .result) (up .result) (kept .result) (c .with-state2 .result) (a .top)
-    (record { up = a .up; restart = a .restart; leave = a .leave; stay = a .stay }) (some .result) (counting .before .and .result) (c .before .or .result)
+    (record { up = a .up; restart = a .restart; leave = a .leave; stay = a .stay }) (some .result) (a .stay && held .result)
+    (a .restart && some .result || a .leave && held .result)
     (start .pre .0) (start .pre .1) (low .ensures) (up .ensures)
-    (counting .before .and .ensures ∙ ap (λ (x : Bool). a .stay && x) held) (kept .ensures) (some .ensures)
-    (c .before .or .ensures ∙ ap₂ _||_ (c .before .before .before .and2 .ensures) (c .before .before .and3 .ensures ∙ ap (λ (x : Bool). a .leave && x) held))
+    (ap (λ (x : Bool). a .stay && x) (held .ensures)) (kept .ensures) (some .ensures)
+    (ap (λ (x : Bool). a .restart && some .result || a .leave && x) (held .ensures))
     (c .with-state2 .ensures) (search needs) (λ j. fits c j .fits)
 
 pub moved-spec : {M : Type 1} → statement M
@@ -66,11 +55,7 @@ moved-spec =
     test-requires
     below-requires
     raised-requires
-    and-requires
     with-state-requires
     some-requires
-    and-requires-2
-    and-requires-3
-    or-requires
     with-state-requires-2
     returns)
