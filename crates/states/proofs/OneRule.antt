@@ -1,6 +1,7 @@
 -- One rule read from a record: its status, and whether a state of it is possible.
-use Prim.Native.Nat.{ℕ, _+_, _*_, _^_, _/_, _%_, _<_}
-use mathlib.Core.Path.{_≡_, ap, ap₂, sym, _∙_}
+use Prim.Native.Nat.{ℕ, zero, suc, _+_, _*_, _^_, _/_, _%_, _≤_, _<_}
+use mathlib.Core.Path.{_≡_, refl, ap, ap₂, sym, _∙_}
+use mathlib.Core.Bool.{false}
 use mathlib.Core.List.{List}
 use native.Mathlib.Omega.{arith}
 use lib.Dec.{eqb}
@@ -9,11 +10,13 @@ use borrow.Author.Tests.{lt-ltb, eq-eqb}
 use Rattle.rules.specs.declared.Setting.{Setting}
 use Rattle.rules.specs.Evaluation.{top, status}
 use Rattle.flags.specs.declared.Flag.{Flag}
+use Rattle.flags.specs.declared.Flag.the-variants.{Clear}
 use Rattle.fillings.specs.Flags.{flag}
 use Rattle.states.specs.Records.{bit, at, statesOf, ruleWords}
 use Rattle.states.specs.Steps.{setOf}
 use Rattle.states.specs.Readings.{statusIn, allowed}
 use Rattle.states.proofs.EachRule.{word-of}
+use Rattle.states.proofs.SetFlags.{status-off, status-clear}
 
 module _ (ws : List ℕ) (i : ℕ) (long : length ws ≡ 80) (rule : i < 16) where
   pub status-of-rule : (s : Setting) → statusIn s i ws ≡ flag (top (s .time)) (status (top (s .time))) (setOf s i ws)
@@ -33,3 +36,11 @@ module _ (ws : List ℕ) (i : ℕ) (long : length ws ≡ 80) (rule : i < 16) whe
   unfolding at bit
   allowed-word s h =
       ap (λ (x : ℕ). eqb (x / 2 ^ (s % 64) % 2) 1) (sym (word-of ws i (s / 64) (omega arith))) ∙ sym (allowed-state s h)
+
+  -- where the top state is not possible, status is clear
+  pub status-none : (s : Setting) (m : ℕ) → m ≡ top (s .time) → m ≤ 256 → allowed ws i m ≡ false → Clear ≡ statusIn s i ws
+  status-none s m e l h = go m refl ∙ ap (λ (n : ℕ). flag n (status n) (statesOf (ruleWords ws i) n)) e ∙ sym (status-of-rule s)
+    where
+      go : (n : ℕ) → n ≡ m → Clear ≡ flag m (status m) (statesOf (ruleWords ws i) m)
+      go zero z = status-off (ruleWords ws i) ∙ ap (λ (n : ℕ). flag n (status n) (statesOf (ruleWords ws i) n)) z
+      go (suc n) z = status-clear (ruleWords ws i) m l (omega arith) (sym (allowed-state m (omega arith)) ∙ h)

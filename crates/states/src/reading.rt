@@ -57,8 +57,11 @@ pub fn status_in(words: &[u64], i: usize, setting: Setting) -> Flag
     }
     if i < 16 {
         let top = top_for(setting.time);
-        let w = load(words, i);
-        return status_of(w, top);
+        if allows(words, i, top) {
+            let w = load(words, i);
+            return status_of(w, top);
+        }
+        return Flag::Clear;
     }
     Flag::Unknown
 }
