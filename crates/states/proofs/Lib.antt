@@ -4,6 +4,7 @@ pub mod Packing
 pub mod Moving
 pub mod RuleWords
 pub mod EachRule
+pub mod AtZero
 pub mod ManyUnseen
 pub mod SetFlags
 pub mod Tops

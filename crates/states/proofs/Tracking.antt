@@ -24,6 +24,7 @@ use Rattle.states.specs.Steps.{settingOf, setOf, movesAt, seenWords, aft
 use Rattle.states.specs.Readings.{flagsOf, allFlags}
 use Rattle.states.specs.Tracking.{recordAt, ShortTimes, Tracks, Determined}
 use Rattle.states.proofs.Packing.{wordsOf-length, states-words, same-sets}
+use Rattle.states.proofs.AtZero.{start-words}
 use Rattle.states.proofs.RuleWords.{getD-tabulate, record-length, record-at}
 use Rattle.states.proofs.EachRule.{record-same, rule-new}
 use Rattle.states.proofs.Bits.{below?}
@@ -83,13 +84,6 @@ no-evaluation r trace a b h u e =
     (possible-hole r trace a (suc b) (omega arith) (λ t l g. u t l (omega arith))
     ∙ ap (λ (n : ℕ). unseenTimes n (last r) (r .row .recovers) (possible r trace a)) e)
 
-has-start : (m s : ℕ) → has (start m) s ≡ has (start 0) s
-has-start m zero = refl
-has-start m (suc s) =
-    ⊎-elim (λ h. has-tabulate m (λ i. eqb (suc i) 0) s h ∙ ne-eqb (suc s) 0 (λ e. omega arith))
-    (λ h. List·getD-eq-default (tabulate m (λ i. eqb (suc i) 0)) false {n = s} (omega (arith, length-tabulate m (λ i. eqb (suc i) 0))))
-    (below? s m)
-
 module _ (p : Pack) (short : ShortTimes p) (trace : ℕ → Shown) where
   abbrev P : ℕ → ℕ → List Bool
   P k i = possible (ruleOf p i) trace k
@@ -123,7 +117,7 @@ module _ (p : Pack) (short : ShortTimes p) (trace : ℕ → Shown) where
   unfolding possible
   begins =
       record-same (λ i. true) (λ i. true) (λ i. wordsOf (start 0)) (λ i. wordsOf (P 0 i)) [] []
-      (λ k h. ap (λ (w : List ℕ). getD w (k % 5) 0) (sym (same-sets (start (last (ruleOf p (k / 5)))) (start 0) (has-start (last (ruleOf p (k / 5)))))))
+      (λ k h. ap (λ (w : List ℕ). getD w (k % 5) 0) (sym (start-words (last (ruleOf p (k / 5))))))
 
   sees : (k : ℕ) (x : Sample) → trace k ≡ seen x → afterSeen (p .settings) (p .idle) k (readingsOf x) (recordAt p trace k) ≡ recordAt p trace (suc k)
   sees k x e =

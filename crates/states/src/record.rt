@@ -5,6 +5,7 @@ ghost use lib.Dec.{eqb};
 ghost use lib.ListN.{length};
 ghost use Rattle.fillings.specs.PossibleStates.{next};
 ghost use Rattle.states.specs.Records.{statesOf, wordsOf, ruleWords, recordWith};
+use crate::words::at_zero;
 use crate::words::moved;
 
 pub(crate) fn load(words: &[u64], i: usize) -> [u64; 5]
@@ -33,7 +34,7 @@ pub(crate) fn store(words: &mut [u64], i: usize, w: [u64; 5])
     }
 }
 
-// Moves one rule.
+// Moves one rule. One at 0 alone that can only restart is left as it is.
 pub(crate) fn move_rule(
     words: &mut [u64],
     i: usize,
@@ -47,6 +48,9 @@ pub(crate) fn move_rule(
     ensures { λ _. ⌜ now (words .exit) ≡ recordWith (λ j. eqb j i) (λ j. wordsOf (next top (record { up = up; restart = restart; leave = leave; stay = stay }) (statesOf (ruleWords (now (words .entry)) i) top))) (now (words .entry)) ⌝ }
 {
     let w = load(words, i);
+    if restart & !up & at_zero(w) {
+        return;
+    }
     let v = moved(w, top, up, restart, leave, stay);
     store(words, i, v);
 }

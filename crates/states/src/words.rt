@@ -1,8 +1,9 @@
 // A set of the states of one rule as five words: state s is bit s.
 ghost use mathlib.Core.Path.{_≡_};
+ghost use mathlib.Core.Bool.{true};
 ghost use Prim.Native.Nat.{_<_, _≤_};
 ghost use lib.ListN.{getD};
-ghost use Rattle.fillings.specs.PossibleStates.{someBelow, next, unseenTimes};
+ghost use Rattle.fillings.specs.PossibleStates.{someBelow, next, start, unseenTimes};
 ghost use Rattle.rules.specs.Evaluation.{top, alert, status};
 ghost use Rattle.fillings.specs.Flags.{flag};
 ghost use Rattle.states.specs.Records.{at, statesOf, wordsOf};
@@ -89,6 +90,13 @@ fn some(w: [u64; 5]) -> bool
         i += 1;
     }
     false
+}
+
+// Whether state 0 alone is possible.
+pub(crate) fn at_zero(w: [u64; 5]) -> bool
+    ensures { λ r. ⌜ (r ≡ true → w ≡ wordsOf (start 0)) ⌝ }
+{
+    (w[0] == 1) & (w[1] == 0) & (w[2] == 0) & (w[3] == 0) & (w[4] == 0)
 }
 
 // The words a place up, or none.

@@ -1,4 +1,5 @@
 use Rattle.states.proofs.EachRule.{moved-stored}
+use Rattle.states.proofs.AtZero.{zero-stays}
 use borrow.Author.Needs.{needs}
 use Rattle.states.proofs.record.move_rule.Statement.{statement}
 use Rattle.states.proofs.record.move_rule.Tie as tie
@@ -6,18 +7,44 @@ use Rattle.states.proofs.record.move_rule.Tie as tie
 load-requires : tie.Need-load-requires
 load-requires c κs = search needs
 
+at-zero-requires : tie.Need-at-zero-requires
+at-zero-requires c κs = search needs
+
+same-length : tie.Need-same-length
+same-length c = search needs
+
+returns : tie.Need-returns
+returns c =
+    let zero = c .before .at-zero in
+    let load = c .before .before .load in
+    let start = c .before .before .before .before .before in
+    let a = start .args in
+    zero-stays (a .words .now) (load .result) (a .i) (a .top) (record { up = a .up; restart = a .restart; leave = a .leave; stay = a .stay }) (zero .result)
+    (start .pre .0) (start .pre .1 .1 .0) (start .pre .1 .1 .1) (c .if1 .taken) (zero .ensures) (load .ensures)
+
 moved-requires : tie.Need-moved-requires
 moved-requires c κs = search needs
 
 store-requires : tie.Need-store-requires
 store-requires c κs = search needs
 
-same-length : tie.Need-same-length
-same-length c = search needs
+same-length-2 : tie.Need-same-length-2
+same-length-2 c = search needs
 
-returns : tie.Need-returns
-returns c = moved-stored _ _ _ _ _ _ _ (c .before .before .store .ensures) (c .before .before .before .before .moved .ensures) (c .before .before .before .before .before .load .ensures)
+returns-2 : tie.Need-returns-2
+returns-2 c =
+    let move = c .before .before .before .before in
+    moved-stored _ _ _ _ _ _ _ (c .before .before .store .ensures) (move .moved .ensures) (move .before .before .before .load .ensures)
 
 pub move-rule-spec : {M : Type 1} → statement M
 move-rule-spec =
-    tie.close (tie.spec load-requires moved-requires store-requires same-length returns)
+    tie.close
+    (tie.spec
+    load-requires
+    at-zero-requires
+    same-length
+    returns
+    moved-requires
+    store-requires
+    same-length-2
+    returns-2)

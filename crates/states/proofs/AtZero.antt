@@ -1,0 +1,139 @@
+-- A rule at state 0 alone whose threshold is not met stays there.
+use Prim.Native.Nat.{ℕ, zero, suc, _+_, _*_, _/_, _%_, _≤_, _<_}
+use mathlib.Core.Path.{_≡_, refl, ap, ap₂, sym, _∙_, subst}
+use mathlib.Core.List.{List, [], _∷_}
+use mathlib.Core.Bool.{Bool, true, false, not, cond, _&&_}
+use mathlib.Core.Logic.{⊎-elim}
+use native.Mathlib.Omega.{arith}
+use lib.Dec.{T, eqb, eqb→eq}
+use lib.ListN.{getD, length, List·getD-eq-default}
+use lib.Seq.{ext-getD}
+use borrow.Author.Tests.{eq-eqb, ne-eqb}
+use Rattle.fillings.specs.PossibleStates.{tabulate, has, Moves, next, start}
+use Rattle.fillings.proofs.Bools.{and-left, and-right, bool-ext, has-tabulate, length-tabulate}
+use Rattle.fillings.proofs.Next.{next-length, reached, by-restart}
+use Rattle.states.specs.Records.{statesOf, wordOf, wordsOf, ruleWords, recordWith}
+use Rattle.states.proofs.Bits.{below?, equal?}
+use Rattle.states.proofs.Packing.{states-words, same-sets}
+use Rattle.states.proofs.RuleWords.{record-length, record-at}
+use Rattle.states.proofs.EachRule.{word-of}
+
+five-words : (w v : List ℕ) → length w ≡ 5 → length v ≡ 5 → getD w 0 0 ≡ getD v 0 0 → getD w 1 0 ≡ getD v 1 0 → getD w 2 0 ≡ getD v 2 0
+    → getD w 3 0 ≡ getD v 3 0 → getD w 4 0 ≡ getD v 4 0 → w ≡ v
+five-words w v l m e₀ e₁ e₂ e₃ e₄ = ext-getD 0 w v (l ∙ sym m) each
+  where
+    each : (j : ℕ) → j < length w → getD w j 0 ≡ getD v j 0
+    each zero h = e₀
+    each (suc zero) h = e₁
+    each (suc (suc zero)) h = e₂
+    each (suc (suc (suc zero))) h = e₃
+    each (suc (suc (suc (suc zero)))) h = e₄
+    each (suc (suc (suc (suc (suc j))))) h = absurd (omega arith)
+
+-- The words of state 0 alone are 1, 0, 0, 0, 0.
+pub zero-words : (w : List ℕ) → length w ≡ 5
+    → (eqb (getD w 0 0) 1 && eqb (getD w 1 0) 0 && eqb (getD w 2 0) 0 && eqb (getD w 3 0) 0 && eqb (getD w 4 0) 0) ≡ true → w ≡ wordsOf (start 0)
+unfolding wordOf wordsOf
+zero-words w l e =
+    let t₄ = subst T (sym e) tt in
+    let t₃ = and-left (a && b && c && d) f t₄ in
+    let t₂ = and-left (a && b && c) d t₃ in
+    let t₁ = and-left (a && b) c t₂ in
+    five-words w (1 ∷ 0 ∷ 0 ∷ 0 ∷ 0 ∷ []) l refl (eqb→eq (getD w 0 0) 1 (and-left a b t₁)) (eqb→eq (getD w 1 0) 0 (and-right a b t₁))
+    (eqb→eq (getD w 2 0) 0 (and-right (a && b) c t₂)) (eqb→eq (getD w 3 0) 0 (and-right (a && b && c) d t₃)) (eqb→eq (getD w 4 0) 0 (and-right (a && b && c && d) f t₄))
+  where
+    a : Bool
+    a = eqb (getD w 0 0) 1
+
+    b : Bool
+    b = eqb (getD w 1 0) 0
+
+    c : Bool
+    c = eqb (getD w 2 0) 0
+
+    d : Bool
+    d = eqb (getD w 3 0) 0
+
+    f : Bool
+    f = eqb (getD w 4 0) 0
+
+-- The set of state 0 alone does not depend on the top state, but for its length.
+pub has-start : (m s : ℕ) → has (start m) s ≡ has (start 0) s
+has-start m zero = refl
+has-start m (suc s) =
+    ⊎-elim (λ h. has-tabulate m (λ i. eqb (suc i) 0) s h ∙ ne-eqb (suc s) 0 (λ e. omega arith))
+    (λ h. List·getD-eq-default (tabulate m (λ i. eqb (suc i) 0)) false {n = s} (omega (arith, length-tabulate m (λ i. eqb (suc i) 0))))
+    (below? s m)
+
+pub start-words : (m : ℕ) → wordsOf (start m) ≡ wordsOf (start 0)
+start-words m = same-sets (start m) (start 0) (has-start m)
+
+start-zero : (m s : ℕ) → T (has (start m) s) → s ≡ 0
+start-zero m zero t = refl
+start-zero m (suc s) t = absurd (subst T (has-start m (suc s)) t)
+
+-- A restart keeps state 0 alone.
+start-kept : (m : ℕ) (mv : Moves) → 0 < m → mv .up ≡ false → mv .restart ≡ true → next m mv (start m) ≡ start m
+start-kept m mv pos up restart =
+    ext-getD false (next m mv (start m)) (start m) (next-length m mv (start m) ∙ sym (length-tabulate (suc m) (λ s. eqb s 0)))
+    (λ s h. bool-ext _ _ (from s (omega (arith, next-length m mv (start m)))) (to s))
+  where
+    from : (s : ℕ) → s ≤ m → T (has (next m mv (start m)) s) → T (has (start m) s)
+    from s h t =
+        reached m mv (start m) s h t (λ i l a u e. absurd (subst T up u)) (λ i l a u e. subst (λ j. T (has (start m) j)) e tt)
+        (λ a u e. absurd (let z : m ≡ 0 = start-zero m m a in omega arith)) (λ a u e. absurd (let z : m ≡ 0 = start-zero m m a in omega arith))
+
+    to : (s : ℕ) → T (has (start m) s) → T (has (next m mv (start m)) s)
+    to s t =
+        subst (λ j. T (has (next m mv (start m)) j)) (sym (start-zero m s t)) (by-restart m mv (start m) 0 pos tt (subst T (sym restart) tt))
+
+zero-set : (m : ℕ) → m ≤ 256 → statesOf (wordsOf (start 0)) m ≡ start m
+zero-set m h =
+    ap (λ (w : List ℕ). statesOf w m) (sym (start-words m)) ∙ states-words (start m) m (length-tabulate (suc m) (λ s. eqb s 0)) (omega arith)
+
+zero-kept : (w : List ℕ) (m : ℕ) (mv : Moves) → w ≡ wordsOf (start 0) → 0 < m → m ≤ 256 → mv .up ≡ false → mv .restart ≡ true
+    → wordsOf (next m mv (statesOf w m)) ≡ w
+zero-kept w m mv e pos fits up restart =
+    ap (λ (v : List ℕ). wordsOf (next m mv (statesOf v m))) e
+    ∙ ap (λ (p : List Bool). wordsOf (next m mv p)) (zero-set m fits)
+    ∙ ap wordsOf (start-kept m mv pos up restart)
+    ∙ start-words m
+    ∙ sym e
+
+-- A record in which one rule has the words that it had.
+same-rule : (ws v : List ℕ) (i : ℕ) → length ws ≡ 80 → v ≡ ruleWords ws i → recordWith (λ j. eqb j i) (λ j. v) ws ≡ ws
+same-rule ws v i l e =
+    ext-getD 0 (recordWith (λ j. eqb j i) (λ j. v) ws) ws (record-length (λ j. eqb j i) (λ j. v) ws ∙ sym l)
+    (λ k g.
+    record-at (λ j. eqb j i) (λ j. v) ws k (omega (arith, record-length (λ j. eqb j i) (λ j. v) ws))
+    ∙ ⊎-elim
+    (λ d.
+    let q : 5 * i + k % 5 ≡ k = omega arith in
+    ap (λ (b : Bool). cond b (getD v (k % 5) 0) (getD ws k 0)) (eq-eqb (k / 5) i d)
+    ∙ ap (λ (x : List ℕ). getD x (k % 5) 0) e
+    ∙ word-of ws i (k % 5) (omega arith)
+    ∙ ap (λ (x : ℕ). getD ws x 0) q)
+    (λ n. ap (λ (b : Bool). cond b (getD v (k % 5) 0) (getD ws k 0)) (ne-eqb (k / 5) i n))
+    (equal? (k / 5) i))
+
+is-not-up : (restart up alone : Bool) → (restart && not up && alone) ≡ true → up ≡ false
+is-not-up true false alone e = refl
+is-not-up true true alone e = sym e
+is-not-up false up alone e = absurd (let z : _≡_ {A = ℕ} 0 1 = cc in omega arith)
+
+is-restart : (restart up alone : Bool) → (restart && not up && alone) ≡ true → restart ≡ true
+is-restart true up alone e = refl
+is-restart false up alone e = e
+
+is-alone : (restart up alone : Bool) → (restart && not up && alone) ≡ true → alone ≡ true
+is-alone true false alone e = e
+is-alone true true alone e = absurd (let z : _≡_ {A = ℕ} 0 1 = cc in omega arith)
+is-alone false up alone e = absurd (let z : _≡_ {A = ℕ} 0 1 = cc in omega arith)
+
+-- A rule at 0 alone that can only restart leaves the record as it is.
+pub zero-stays : (ws w : List ℕ) (i m : ℕ) (mv : Moves) (alone : Bool) → length ws ≡ 80 → 0 < m → m ≤ 256
+    → (mv .restart && not (mv .up) && alone) ≡ true → (alone ≡ true → w ≡ wordsOf (start 0)) → w ≡ ruleWords ws i
+    → ws ≡ recordWith (λ j. eqb j i) (λ j. wordsOf (next m mv (statesOf (ruleWords ws i) m))) ws
+zero-stays ws w i m mv alone l pos fits e z r =
+    sym (same-rule ws (wordsOf (next m mv (statesOf (ruleWords ws i) m))) i l
+    (zero-kept (ruleWords ws i) m mv (sym r ∙ z (is-alone (mv .restart) (mv .up) alone e)) pos fits (is-not-up (mv .restart) (mv .up) alone e) (is-restart (mv .restart) (mv .up) alone e)))
