@@ -7,8 +7,8 @@ use lib.ListN.{length, getD, take, drop, take-append-drop}
 use lib.Seq.{length-take-le}
 use Rattle.refusals.specs.Refusals.{answer}
 use Rattle.bytes_le.specs.Numbers.{u16At}
-use Rattle.rules.specs.Limits.{settingsOf}
-use Rattle.rules.specs.Limits as L
+use Rattle.limits.specs.Limits.{settingsOf}
+use Rattle.limits.specs.Limits as L
 use Rattle.trace.specs.Records.{Hole, Reply, Stamped, sampleWidth, holesIn, repliesIn, samplesIn}
 use Rattle.trace.specs.Sections.{rulesPart, repliesPart, samplesPart}
 use Rattle.trace.specs.Acceptance.{Whole, recordsAnswer, acceptAnswer}

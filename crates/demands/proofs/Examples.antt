@@ -2,8 +2,8 @@
 use mathlib.Core.Path.{_≡_, refl}
 use mathlib.Core.List.{[], _∷_}
 use Rattle.refusals.specs.Refusals.{answer}
-use Rattle.rules.specs.Limits.{limits, limitsAnswer}
-use Rattle.rules.specs.Limits as L
+use Rattle.limits.specs.Limits.{limits, limitsAnswer}
+use Rattle.limits.specs.Limits as L
 use Rattle.trace.specs.Records.{holesFrom, repliesFrom, samplesFrom}
 use Rattle.trace.specs.Sections.{headAnswer, rulesAnswer, sectionAnswer, walkAnswer}
 use Rattle.trace.specs.Coverage.{holesAnswer, coverAnswer, repliesAnswer}

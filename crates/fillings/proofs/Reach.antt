@@ -13,7 +13,7 @@ use Rattle.rules.specs.declared.Side.the-variants.{High, Low}
 use Rattle.rules.specs.declared.Setting.{Setting}
 use Rattle.rules.specs.Samples.{Sample, Carried, readingsOf}
 use Rattle.rules.specs.Quantities.{value, qualified, least, most}
-use Rattle.rules.specs.Limits.{limits, within, isZero}
+use Rattle.limits.specs.Limits.{limits, within, isZero}
 use Rattle.rules.specs.Evaluation.{beyond, opposite, trips, clears, top}
 use Rattle.fillings.specs.Fillings.{Rule, Sound, last}
 use Rattle.fillings.proofs.Bools.{and-right, both, or-elim, three, is-true, refuted}

@@ -9,7 +9,7 @@ use Rattle.rules.specs.declared.Row.{Row}
 use Rattle.rules.specs.declared.Setting.{Setting}
 use Rattle.rules.specs.Samples.{Sample, Carried, readingsOf}
 use Rattle.rules.specs.Table.{rowAt}
-use Rattle.rules.specs.Limits.{limits, off}
+use Rattle.limits.specs.Limits.{limits, off}
 use Rattle.rules.specs.Evaluation.{trips, clears, top, step, evaluated}
 
 -- A rule of one trace: the trace's cell count and idle current, the rule's row of the table, and its numbers.

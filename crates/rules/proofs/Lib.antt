@@ -1,6 +1,5 @@
 pub mod CellCount
-pub mod Folds
+pub mod Quantities
 pub mod Rows
-pub mod RuleSets
 pub mod Signed
 pub mod Tops

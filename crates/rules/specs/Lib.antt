@@ -1,5 +1,4 @@
 pub mod Samples
 pub mod Table
 pub mod Quantities
-pub mod Limits
 pub mod Evaluation

@@ -55,15 +55,16 @@ fn qualifies(idle: u16, quantity: Quantity, r: Readings) -> bool
     ensures { λ b. ⌜ b ≡ qualified idle quantity r ⌝ }
 {
     match quantity {
-        Quantity::HighestCell => true,
-        Quantity::LowestCell => true,
-        Quantity::SumOfCells => true,
-        Quantity::Current => true,
         Quantity::HighestTempCharging => charges(idle, r.current),
-        Quantity::HighestTempDischarging => discharges(idle, r.current),
-        Quantity::Board => true,
-        Quantity::LowestTempDischarging => discharges(idle, r.current),
-        Quantity::CellDifference => true,
+        Quantity::HighestTempDischarging | Quantity::LowestTempDischarging => {
+            discharges(idle, r.current)
+        }
+        Quantity::HighestCell
+        | Quantity::LowestCell
+        | Quantity::SumOfCells
+        | Quantity::Current
+        | Quantity::Board
+        | Quantity::CellDifference => true,
     }
 }
 

@@ -1,18 +1,14 @@
-// The sixteen rules (paper 01, 'The sixteen rules'): their table, the quantities of a sample, the limits of a rule set, and
-// what one evaluation of a rule finds.
+// The sixteen rules (paper 01, 'The sixteen rules'): their table, what they read of a sample, and what one evaluation of a
+// rule finds.
 ghost use mathlib.Core.Path.{_≡_};
 ghost use Rattle.rules.specs.Table.{rows, rowAt};
 
 mod evaluation;
-mod limits;
-mod samples;
 
+pub use evaluation::and;
 pub use evaluation::evaluate;
 pub use evaluation::evaluated_at;
 pub use evaluation::top_of;
-pub use limits::check_rules;
-use refusals::Refusal;
-pub use samples::read_sample;
 
 // What a rule looks at. A quantity 'charging' or 'discharging' counts towards the threshold only while the pack does so.
 pub enum Quantity {
@@ -44,179 +40,189 @@ pub struct Row {
     pub bits: u16,
 }
 
-// The rows, under the manual's names.
-const ROWS: [Row; 16] = [
-    // 0, COV
-    Row {
-        quantity: Quantity::HighestCell,
-        side: Side::High,
-        recovers: true,
-        even: false,
-        charge: true,
-        discharge: false,
-        bits: 0x4000,
-    },
-    // 1, CUV
-    Row {
-        quantity: Quantity::LowestCell,
-        side: Side::Low,
-        recovers: true,
-        even: false,
-        charge: false,
-        discharge: true,
-        bits: 0x0800,
-    },
-    // 2, POV
-    Row {
-        quantity: Quantity::SumOfCells,
-        side: Side::High,
-        recovers: true,
-        even: false,
-        charge: true,
-        discharge: false,
-        bits: 0x4000,
-    },
-    // 3, PUV
-    Row {
-        quantity: Quantity::SumOfCells,
-        side: Side::Low,
-        recovers: true,
-        even: false,
-        charge: false,
-        discharge: true,
-        bits: 0x0800,
-    },
-    // 4, OC Charge
-    Row {
-        quantity: Quantity::Current,
-        side: Side::High,
-        recovers: true,
-        even: false,
-        charge: true,
-        discharge: false,
-        bits: 0x4000,
-    },
-    // 5, OC Discharge
-    Row {
-        quantity: Quantity::Current,
-        side: Side::Low,
-        recovers: true,
-        even: false,
-        charge: false,
-        discharge: true,
-        bits: 0x0800,
-    },
-    // 6, OT Charge
-    Row {
-        quantity: Quantity::HighestTempCharging,
-        side: Side::High,
-        recovers: true,
-        even: true,
-        charge: true,
-        discharge: false,
-        bits: 0x5000,
-    },
-    // 7, OT Discharge
-    Row {
-        quantity: Quantity::HighestTempDischarging,
-        side: Side::High,
-        recovers: true,
-        even: true,
-        charge: false,
-        discharge: true,
-        bits: 0x1800,
-    },
-    // 8, Board Over Temperature
-    Row {
-        quantity: Quantity::Board,
-        side: Side::High,
-        recovers: true,
-        even: true,
-        charge: true,
-        discharge: true,
-        bits: 0x5800,
-    },
-    // 9, Discharge Under Temperature
-    Row {
-        quantity: Quantity::LowestTempDischarging,
-        side: Side::Low,
-        recovers: true,
-        even: true,
-        charge: false,
-        discharge: true,
-        bits: 0x0800,
-    },
-    // 10, SOV
-    Row {
-        quantity: Quantity::HighestCell,
-        side: Side::High,
-        recovers: false,
-        even: false,
-        charge: true,
-        discharge: true,
-        bits: 0x4800,
-    },
-    // 11, SOC Charge
-    Row {
-        quantity: Quantity::Current,
-        side: Side::High,
-        recovers: false,
-        even: false,
-        charge: true,
-        discharge: true,
-        bits: 0x4800,
-    },
-    // 12, SOC Discharge
-    Row {
-        quantity: Quantity::Current,
-        side: Side::Low,
-        recovers: false,
-        even: false,
-        charge: true,
-        discharge: true,
-        bits: 0x4800,
-    },
-    // 13, SOT Charge
-    Row {
-        quantity: Quantity::HighestTempCharging,
-        side: Side::High,
-        recovers: false,
-        even: true,
-        charge: true,
-        discharge: true,
-        bits: 0x5800,
-    },
-    // 14, SOT Discharge
-    Row {
-        quantity: Quantity::HighestTempDischarging,
-        side: Side::High,
-        recovers: false,
-        even: true,
-        charge: true,
-        discharge: true,
-        bits: 0x5800,
-    },
-    // 15, Cell Imbalance
-    Row {
-        quantity: Quantity::CellDifference,
-        side: Side::High,
-        recovers: false,
-        even: false,
-        charge: true,
-        discharge: true,
-        bits: 0x4800,
-    },
-];
-
 pub struct Table {
     pub of: [Row; 16],
 }
 
-// The whole table, for a loop over the rules.
+// The whole table, for a loop over the rules: its rows under the manual's names.
 pub fn all_rows() -> Table
     ensures { λ t. ⌜ t .of ≡ rows ⌝ }
 {
-    Table { of: ROWS }
+    let highest_cell = Quantity::HighestCell;
+    let lowest_cell = Quantity::LowestCell;
+    let sum_of_cells = Quantity::SumOfCells;
+    let current = Quantity::Current;
+    let highest_temp_charging = Quantity::HighestTempCharging;
+    let highest_temp_discharging = Quantity::HighestTempDischarging;
+    let board = Quantity::Board;
+    let lowest_temp_discharging = Quantity::LowestTempDischarging;
+    let cell_difference = Quantity::CellDifference;
+    let high = Side::High;
+    let low = Side::Low;
+    Table {
+        of: [
+            // 0, COV
+            Row {
+                quantity: highest_cell,
+                side: high,
+                recovers: true,
+                even: false,
+                charge: true,
+                discharge: false,
+                bits: 0x4000,
+            },
+            // 1, CUV
+            Row {
+                quantity: lowest_cell,
+                side: low,
+                recovers: true,
+                even: false,
+                charge: false,
+                discharge: true,
+                bits: 0x0800,
+            },
+            // 2, POV
+            Row {
+                quantity: sum_of_cells,
+                side: high,
+                recovers: true,
+                even: false,
+                charge: true,
+                discharge: false,
+                bits: 0x4000,
+            },
+            // 3, PUV
+            Row {
+                quantity: sum_of_cells,
+                side: low,
+                recovers: true,
+                even: false,
+                charge: false,
+                discharge: true,
+                bits: 0x0800,
+            },
+            // 4, OC Charge
+            Row {
+                quantity: current,
+                side: high,
+                recovers: true,
+                even: false,
+                charge: true,
+                discharge: false,
+                bits: 0x4000,
+            },
+            // 5, OC Discharge
+            Row {
+                quantity: current,
+                side: low,
+                recovers: true,
+                even: false,
+                charge: false,
+                discharge: true,
+                bits: 0x0800,
+            },
+            // 6, OT Charge
+            Row {
+                quantity: highest_temp_charging,
+                side: high,
+                recovers: true,
+                even: true,
+                charge: true,
+                discharge: false,
+                bits: 0x5000,
+            },
+            // 7, OT Discharge
+            Row {
+                quantity: highest_temp_discharging,
+                side: high,
+                recovers: true,
+                even: true,
+                charge: false,
+                discharge: true,
+                bits: 0x1800,
+            },
+            // 8, Board Over Temperature
+            Row {
+                quantity: board,
+                side: high,
+                recovers: true,
+                even: true,
+                charge: true,
+                discharge: true,
+                bits: 0x5800,
+            },
+            // 9, Discharge Under Temperature
+            Row {
+                quantity: lowest_temp_discharging,
+                side: low,
+                recovers: true,
+                even: true,
+                charge: false,
+                discharge: true,
+                bits: 0x0800,
+            },
+            // 10, SOV
+            Row {
+                quantity: highest_cell,
+                side: high,
+                recovers: false,
+                even: false,
+                charge: true,
+                discharge: true,
+                bits: 0x4800,
+            },
+            // 11, SOC Charge
+            Row {
+                quantity: current,
+                side: high,
+                recovers: false,
+                even: false,
+                charge: true,
+                discharge: true,
+                bits: 0x4800,
+            },
+            // 12, SOC Discharge
+            Row {
+                quantity: current,
+                side: low,
+                recovers: false,
+                even: false,
+                charge: true,
+                discharge: true,
+                bits: 0x4800,
+            },
+            // 13, SOT Charge
+            Row {
+                quantity: highest_temp_charging,
+                side: high,
+                recovers: false,
+                even: true,
+                charge: true,
+                discharge: true,
+                bits: 0x5800,
+            },
+            // 14, SOT Discharge
+            Row {
+                quantity: highest_temp_discharging,
+                side: high,
+                recovers: false,
+                even: true,
+                charge: true,
+                discharge: true,
+                bits: 0x5800,
+            },
+            // 15, Cell Imbalance
+            Row {
+                quantity: cell_difference,
+                side: high,
+                recovers: false,
+                even: false,
+                charge: true,
+                discharge: true,
+                bits: 0x4800,
+            },
+        ],
+    }
 }
 
 // The row of a rule; past the table one that drives nothing.
@@ -224,7 +230,8 @@ pub fn row_at(i: usize) -> Row
     ensures { λ r. ⌜ r ≡ rowAt i ⌝ }
 {
     if i < 16 {
-        return ROWS[i];
+        let table = all_rows();
+        return table.of[i];
     }
     Row {
         quantity: Quantity::Board,
@@ -259,24 +266,8 @@ pub struct Readings {
     pub lowest_temp: i16,
 }
 
-pub enum Read {
-    Taken(Readings),
-    Untaken(Refusal),
-}
-
 // Whether an evaluation meets the threshold, and whether it meets the recovery.
 pub struct Found {
     pub trips: bool,
     pub clears: bool,
-}
-
-pub enum Limited {
-    Within,
-    Outside(Refusal),
-}
-
-// A rule set that was checked, and its settings: all off where it is refused.
-pub struct RuleSet {
-    pub answer: Limited,
-    pub settings: Settings,
 }

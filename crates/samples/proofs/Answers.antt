@@ -7,7 +7,7 @@ use lib.IntN.{ℤ, pos}
 use lib.ListN.{length}
 use Rattle.bytes_le.specs.Numbers.{u16At, i16At}
 use Rattle.bytes_le.proofs.PastEnd.{u16-past}
-use Rattle.rules.specs.Samples.{readAnswer}
+use Rattle.readings.specs.Answers.{readAnswer}
 use Rattle.trace.specs.Records.{stampedAt}
 use Rattle.samples.proofs.Runs.{u16s-run, i16s-run, run-past}
 

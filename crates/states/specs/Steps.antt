@@ -7,7 +7,7 @@ use lib.ListN.{getD, length}
 use Rattle.rules.specs.declared.Setting.{Setting}
 use Rattle.rules.specs.declared.Readings.{Readings}
 use Rattle.rules.specs.Table.{rowAt}
-use Rattle.rules.specs.Limits.{off}
+use Rattle.limits.specs.Limits.{off}
 use Rattle.rules.specs.Evaluation.{trips, clears, top, evaluated}
 use Rattle.fillings.specs.PossibleStates.{found, next, unseenTimes}
 use Rattle.fillings.specs.Demand3.{evaluations}

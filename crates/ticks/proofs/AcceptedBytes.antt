@@ -12,9 +12,9 @@ use Rattle.bytes_le.specs.Numbers.{u16At}
 use Rattle.rules.specs.declared.Row.{Row}
 use Rattle.rules.specs.declared.Setting.{Setting}
 use Rattle.rules.specs.Table.{rows, rowAt}
-use Rattle.rules.specs.Limits.{off, limits, limitsAnswer, settingsOf}
-use Rattle.rules.specs.Limits as L
-use Rattle.rules.proofs.RuleSets.{time-small}
+use Rattle.limits.specs.Limits.{off, limits, limitsAnswer, settingsOf}
+use Rattle.limits.specs.Limits as L
+use Rattle.limits.proofs.RuleSets.{time-small}
 use Rattle.trace.specs.Records.{Hole, Reply, Stamped, sampleWidth}
 use Rattle.trace.specs.Sections.{andThen, headAnswer, rulesAnswer, sectionAnswer, walkAnswer, rulesPart}
 use Rattle.trace.specs.Coverage.{holesAnswer, coverAnswer, repliesAnswer}

@@ -5,7 +5,7 @@ use mathlib.Core.List.{List}
 use borrow.Author.Tests.{eq-eqb, ne-eqb}
 use Rattle.refusals.specs.declared.Refusal.{Refusal}
 use Rattle.refusals.specs.Refusals.{Answer, answer, refused, refusal}
-use Rattle.rules.specs.Limits.{rulesAnswer, settingsOf}
+use Rattle.limits.specs.Limits.{rulesAnswer, settingsOf}
 use Rattle.trace.specs.Sections.{walkAnswer, rulesPart}
 use Rattle.trace.specs.declared.Acceptance.{Acceptance}
 use Rattle.trace.specs.declared.Accepted.the-variants.{Unaccepted}

@@ -6,8 +6,8 @@ use lib.Dec.{eqb}
 use lib.ListN.{length}
 use Rattle.refusals.specs.Refusals.{Answer, answer, refused, refusal}
 use Rattle.rules.specs.declared.Setting.{Setting}
-use Rattle.rules.specs.Limits.{off, tabulateFrom, settingsOf}
-use Rattle.rules.specs.Limits as limits
+use Rattle.limits.specs.Limits.{off, tabulateFrom, settingsOf}
+use Rattle.limits.specs.Limits as limits
 use Rattle.trace.specs.Records.{holesIn, repliesIn, samplesIn}
 use Rattle.trace.specs.Sections.{andThen, walkAnswer, rulesPart, holesPart, repliesPart, samplesPart}
 use Rattle.trace.specs.Coverage.{holesAnswer, coverAnswer, repliesAnswer}

@@ -15,11 +15,11 @@ use crate::coverage::check_holes;
 use crate::coverage::cover_ticks;
 use crate::replies::check_replies;
 use crate::sections::Checked;
+use limits::Limited;
+use limits::check_rules;
 use refusals::Refusal;
-use rules::Limited;
 use rules::Setting;
 use rules::Settings;
-use rules::check_rules;
 
 // A refused trace, with no layout and every rule switched off.
 pub(crate) fn refuse(why: Refusal) -> Acceptance

@@ -1,5 +1,5 @@
 use mathlib.Core.Path.{refl, sym, _∙_, ap}
-use Rattle.rules.specs.Limits.{answerOfLimits}
+use Rattle.limits.specs.Limits.{answerOfLimits}
 use Rattle.trace.specs.Acceptance.{answerOfAccept}
 use Rattle.trace.proofs.Layouts.{parts-are}
 use Rattle.trace.proofs.Outcomes.{refuses, no-verdicts, no-rules, no-records, accepted}

@@ -1,0 +1,151 @@
+-- A rule set, checked rule by rule.
+use Prim.Native.Nat.{ℕ, suc, _+_, _-_, _*_, _≤_, _<_}
+use mathlib.Core.Path.{_≡_, refl, sym, _∙_}
+use mathlib.Core.Bool.{Bool, true, false, cond, _&&_, _||_}
+use mathlib.Core.List.{List, _∷_, _++_, append-nil}
+use native.Mathlib.Numerals.{add-one}
+use native.Mathlib.Omega.{arith}
+use lib.IntN.{ℤ, pos, negsuc}
+use lib.Dec.{eqb, leb}
+use lib.ListN.{length, take, set, length-set}
+use lib.Seq.{take-suc-set, take-all, append-snoc}
+use mir.Syntax.{w32}
+use mir.Val.{toZ, ofZ, SFits}
+use mir.Facts.{toZ-ofZ}
+use borrow.Author.Tests.{leb-true, leb-false, le-leb, ne-eqb}
+use Rattle.refusals.specs.declared.Refusal.{Refusal}
+use Rattle.refusals.specs.Refusals.{Answer, answer, refused, refusal}
+use Rattle.bytes_le.specs.Numbers.{u16At, i32At}
+use Rattle.rules.specs.declared.Side.{Side}
+use Rattle.rules.specs.declared.Side.the-variants.{High, Low}
+use Rattle.rules.specs.declared.Row.{Row}
+use Rattle.limits.specs.declared.RuleSet.{RuleSet}
+use Rattle.rules.specs.declared.Setting.{Setting}
+use Rattle.limits.specs.declared.Limited.the-variants.{Outside}
+use Rattle.limits.specs.declared.Checked.{Checked}
+use Rattle.limits.specs.declared.Checked.the-variants.{Accepted, Beyond}
+use Rattle.rules.specs.Table.{rowAt}
+use Rattle.rules.specs.Quantities.{least, most}
+use Rattle.limits.specs.Limits.{isZero, within, limits, settingAt, tabulateFrom, limitsAnswer, answerOfLimits, off, settingsIf}
+
+pub zero-is : (z : ℤ) → SFits w32 z → eqb (ofZ w32 z) 0 ≡ isZero z
+zero-is (pos k) f = refl
+zero-is (negsuc k) f = ne-eqb (ofZ w32 (negsuc k)) 0 (λ e. omega (arith, f .sfits))
+
+-- The limits of threshold and recovery do not ask the time.
+within-any : (recovers : Bool) (side : Side) (lo hi t r : ℤ) (k : ℕ)
+    → within recovers side lo hi (record { threshold = t; recovery = r; time = 0 })
+    ≡ within recovers side lo hi (record { threshold = t; recovery = r; time = k })
+unfolding within
+within-any true High lo hi t r k = refl
+within-any true Low lo hi t r k = refl
+within-any false High lo hi t r k = refl
+within-any false Low lo hi t r k = refl
+
+-- The test of an enabled rule's numbers, as the code holds them.
+pub limits-are : (n : ℕ) (row : Row) {k : ℕ} {lo hi t r : ℤ} {b : Bool} → (k ≡ 0 → ⊥) → k ≤ 255 → SFits w32 lo → SFits w32 hi → SFits w32 t → SFits w32 r
+    → lo ≡ least (row .quantity) → hi ≡ most (row .quantity) n
+    → b ≡ within (row .recovers) (row .side) (toZ w32 (ofZ w32 lo)) (toZ w32 (ofZ w32 hi)) (record { threshold = toZ w32 (ofZ w32 t); recovery = toZ w32 (ofZ w32 r); time = 0 })
+    → b ≡ limits n row (record { threshold = t; recovery = r; time = k })
+unfolding limits
+limits-are n row {k} {t = t} {r} some low f g ft fr el eh e =
+    rw (ne-eqb k 0 some, le-leb k 255 low, ← within-any (row .recovers) (row .side) (least (row .quantity)) (most (row .quantity) n) t r k, ← el, ← eh)
+    (rw (toZ-ofZ {w = w32} f, toZ-ofZ {w = w32} g, toZ-ofZ {w = w32} ft, toZ-ofZ {w = w32} fr) at e)
+
+small : (k : ℕ) (b : Bool) → (eqb k 0 || leb k 255 && b) ≡ true → k ≤ 255
+small k b e = go (leb k 255) refl
+  where
+    go : (t : Bool) → leb k 255 ≡ t → k ≤ 255
+    go true h = leb-true k 255 h
+    go false h =
+        let more = leb-false k 255 h in
+        let some : eqb k 0 ≡ false = ne-eqb k 0 (λ z. omega arith) in
+        let q : false ≡ true = rw (some, h) at e in
+        let z : _≡_ {A = ℕ} 0 1 = cc in
+        absurd (omega arith)
+
+pub time-small : (n : ℕ) (row : Row) (s : Setting) → limits n row s ≡ true → s .time ≤ 255
+unfolding limits
+time-small n row s e = small (s .time) _ e
+
+-- The check of a rule: its setting, or that it is outside its limits.
+abbrev pub checked : ℕ → Row → Setting → Checked
+checked n row s = cond (limits n row s) (Accepted s) Beyond
+
+pub checked-is : (n : ℕ) {row row′ : Row} {s s′ : Setting} {b v : Bool} → b ≡ limits n row s → b ≡ v → row ≡ row′ → s ≡ s′
+    → cond v (Accepted s) Beyond ≡ checked n row′ s′
+checked-is n e ev er es = rw (← er, ← es, ← e, ev)
+
+pub setting-is : (bytes : List ℕ) (i : ℕ) {t r : ℤ} {k : ℕ} → SFits w32 t → SFits w32 r
+    → t ≡ i32At bytes (10 * i) → r ≡ i32At bytes (10 * i + 4) → k ≡ u16At bytes (10 * i + 8)
+    → record { threshold = toZ w32 (ofZ w32 t); recovery = toZ w32 (ofZ w32 r); time = k } ≡ settingAt bytes i
+setting-is bytes i f g et er ek = rw (toZ-ofZ f, toZ-ofZ g, et, er, ek)
+
+accepted : (n : ℕ) (row : Row) (s : Setting) {r : Checked} {t : Setting} → r ≡ checked n row s → r ≡ Accepted t → (limits n row s ≡ true) × (t ≡ s)
+accepted n row s {r} {t} e q = go (limits n row s) refl
+  where
+    go : (b : Bool) → limits n row s ≡ b → (limits n row s ≡ true) × (t ≡ s)
+    go true b = let f = rw b at e in (b, cc)
+    go false b = let f = rw b at e in let z : _≡_ {A = ℕ} 0 1 = cc in absurd (omega arith)
+
+beyond : (n : ℕ) (row : Row) (s : Setting) {r : Checked} → r ≡ checked n row s → r ≡ Beyond → limits n row s ≡ false
+beyond n row s {r} e q = go (limits n row s) refl
+  where
+    go : (b : Bool) → limits n row s ≡ b → limits n row s ≡ false
+    go true b = let f = rw b at e in let z : _≡_ {A = ℕ} 0 1 = cc in absurd (omega arith)
+    go false b = b
+
+-- The list from i to the end m, one element further.
+tabulate-next : {A : Type 0} (m i : ℕ) (f : ℕ → A) → i < m → tabulateFrom i (m - i) f ≡ f i ∷ tabulateFrom (suc i) (m - suc i) f
+tabulate-next m i f h = let e : m - i ≡ suc (m - suc i) = omega arith in rw e
+
+-- What the check of the settings f of the first m rows answers.
+abbrev pub answered : ℕ → ℕ → (ℕ → Setting) → Answer (Unit {0})
+answered n m f = limitsAnswer n (tabulateFrom 0 m rowAt) (tabulateFrom 0 m f) 0
+
+-- The first i of m settings are kept, and the answer is what the others answer.
+pub record Checking (n m : ℕ) (f : ℕ → Setting) (of : List Setting) (i : ℕ) : Type 0 where
+  pub low : i ≤ m
+  pub long : length of ≡ m
+  pub kept : take i of ++ tabulateFrom i (m - i) f ≡ tabulateFrom 0 m f
+  pub left : answered n m f ≡ limitsAnswer n (tabulateFrom i (m - i) rowAt) (tabulateFrom i (m - i) f) i
+
+pub start : {n m : ℕ} {f : ℕ → Setting} {of : List Setting} → length of ≡ m → Checking n m f of 0
+start {m = m} h = let e : m - 0 ≡ m = omega arith in record { low = omega arith; long = h; kept = rw e; left = rw e }
+
+turn : {n m : ℕ} {f : ℕ → Setting} {of : List Setting} {i : ℕ} → Checking n m f of i → i < m
+    → answered n m f
+    ≡ cond (limits n (rowAt i) (f i)) (limitsAnswer n (tabulateFrom (suc i) (m - suc i) rowAt) (tabulateFrom (suc i) (m - suc i) f) (suc i)) (refused 7 i)
+unfolding limitsAnswer
+turn {m = m} {f} {i = i} c h = rw (tabulate-next m i rowAt h, tabulate-next m i f h) at (c .left)
+
+pub next : {n m : ℕ} {f : ℕ → Setting} {of : List Setting} {i : ℕ} {r : Checked} {s : Setting} → Checking n m f of i → i < m
+    → r ≡ checked n (rowAt i) (f i) → r ≡ Accepted s → Checking n m f (set of i s) (i + 1)
+next {n} {m} {f} {of} {i} {s = s} c h e q =
+    let (held, same) = accepted n (rowAt i) (f i) e q in
+    let room : i < length of = omega (arith, c .long) in
+    record {
+      low = omega arith;
+      long = length-set of i s ∙ c .long;
+      kept = rw (add-one, take-suc-set of i s room, same, append-snoc) (rw (tabulate-next m i f h) at (c .kept));
+      left = rw add-one (rw held at (turn c h));
+    }
+
+pub stop : {n m : ℕ} {f : ℕ → Setting} {of : List Setting} {i : ℕ} {r : Checked} → Checking n m f of i → i < m
+    → r ≡ checked n (rowAt i) (f i) → r ≡ Beyond → answered n m f ≡ refused 7 i
+stop {n} {f = f} {i = i} c h e q = rw (beyond n (rowAt i) (f i) e q) at (turn c h)
+
+pub end : {n m : ℕ} {f : ℕ → Setting} {of : List Setting} {i : ℕ} → Checking n m f of i → m ≤ i
+    → (answer tt ≡ answered n m f) × (of ≡ settingsIf (answered n m f) (tabulateFrom 0 m f))
+unfolding limitsAnswer
+end {m = m} {f} {of} {i} c h =
+    let none : m - i ≡ 0 = omega arith in
+    let e = rw none at (c .left) in
+    let k = rw (none, append-nil, take-all i of (omega (arith, c .long))) at (c .kept) in
+    (sym e, rw e k)
+
+-- A refused rule set.
+pub refuses : {r : RuleSet} {why : Refusal} {a : Answer (Unit {0})} (ss : List Setting)
+    → (r .answer ≡ Outside why) × (r .settings .of ≡ tabulateFrom 0 16 (λ i. off)) → a ≡ refusal why
+    → (answerOfLimits (r .answer) ≡ a) × (r .settings .of ≡ settingsIf a ss)
+refuses ss (e, f) h = (rw (e, h), rw (f, h))
