@@ -99,11 +99,12 @@ fn with_rule(driving: bool, status: Flag, rest: Flag) -> Flag
 pub fn output_of(flags: Flags, o: Output) -> Flag
     ensures { λ f. ⌜ f ≡ outputOf (drivers o) rows (statusesOf (flags .of)) ⌝ }
 {
+    let table = rules::all_rows();
     let mut found = Flag::Clear;
     let mut i: usize = 16;
     while i > 0 {
         i -= 1;
-        let row = rules::row_at(i);
+        let row = table.of[i];
         let f = flags.of[i];
         let status = f.status;
         found = with_rule(drives(o, row), status, found);
