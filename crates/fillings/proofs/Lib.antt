@@ -9,6 +9,7 @@ pub mod Sure
 pub mod Demand3
 pub mod Outputs
 pub mod Still
+pub mod UnseenStates
 pub mod Evaluations
 pub mod Local
 pub mod Charge

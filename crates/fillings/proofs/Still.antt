@@ -44,7 +44,7 @@ module _ (m : ℕ) (recovers : Bool) where
       go (suc s) l = by-up m (anything recovers) p s (omega arith) (all s (omega arith)) tt
 
   module _ (p : List Bool) where
-    abbrev set : ℕ → List Bool
+    abbrev pub set : ℕ → List Bool
     set k = unseenTimes k m recovers p
 
     -- from j the state may count up at every evaluation, and stay at the top
@@ -65,7 +65,7 @@ module _ (m : ℕ) (recovers : Bool) where
             subst (λ i. T (has (next m (anything recovers) (set k)) i)) c (by-up m (anything recovers) (set k) (min (j + k) m) (omega arith) ih tt)
 
     -- a set from which 0 can be reached in one evaluation
-    abbrev Falls : Type 0
+    abbrev pub Falls : Type 0
     Falls = T (someBelow m (has p) || recovers && has p m)
 
     falls : Falls → 0 < m → (k : ℕ) → T (has (set (suc k)) 0)
@@ -76,7 +76,7 @@ module _ (m : ℕ) (recovers : Bool) where
         (λ u. by-leave m (anything recovers) p (and-right recovers (has p m) u) (and-left recovers (has p m) u))
     falls t h (suc k) = by-restart m (anything recovers) (set (suc k)) 0 h (falls t h k) tt
 
-    fills : Falls → (k s : ℕ) → s < k → s < m → T (has (set k) s)
+    pub fills : Falls → (k s : ℕ) → s < k → s < m → T (has (set k) s)
     unfolding unseenTimes
     fills t zero s l h = absurd (omega arith)
     fills t (suc k) zero l h = falls t h k
@@ -95,11 +95,18 @@ module _ (m : ℕ) (recovers : Bool) where
     unseen-length n (suc k) = next-length m (anything recovers) (set k)
 
     -- where one evaluation changes nothing, none does
-    stays : (j : ℕ) → next m (anything recovers) (set j) ≡ set j → (k : ℕ) → j ≤ k → set k ≡ set j
+    pub stays : (j : ℕ) → next m (anything recovers) (set j) ≡ set j → (k : ℕ) → j ≤ k → set k ≡ set j
     unfolding unseenTimes
     stays j e zero h = let z : 0 ≡ j = omega arith in ap set z
     stays j e (suc k) h =
         ⊎-elim (λ z. sym (ap set z)) (λ l. ap (next m (anything recovers)) (stays j e k (omega arith)) ∙ e) (eq-or-lt-of-le h)
+
+    -- a set from which 0 cannot be reached is not moved
+    pub kept : length p ≡ suc m → (someBelow m (has p) || recovers && has p m) ≡ false → next m (anything recovers) p ≡ p
+    kept n e =
+        unmoved p n
+        (λ s l a. subst T e (or-left (someBelow m (has p)) (recovers && has p m) (some-intro m (has p) s l a)))
+        (λ a u. absurd (subst T e (or-right (someBelow m (has p)) (recovers && has p m) (both recovers (has p m) u a))))
 
     settled : length p ≡ suc m → next m (anything recovers) (set m) ≡ set m
     unfolding unseenTimes
@@ -114,10 +121,7 @@ module _ (m : ℕ) (recovers : Bool) where
             let t : Falls = subst T (sym e) tt in
             full (set m) (unseen-length n m) (ltb-true 0 m d)
             (λ s l. ⊎-elim (λ z. subst (λ i. T (has (set m) i)) (sym z) (tops t)) (λ h. fills t m s h h) (eq-or-lt-of-le l))
-        go true d false e =
-            quiet (unmoved p n
-            (λ s l a. subst T e (or-left (someBelow m (has p)) (recovers && has p m) (some-intro m (has p) s l a)))
-            (λ a u. absurd (subst T e (or-right (someBelow m (has p)) (recovers && has p m) (both recovers (has p m) u a)))))
+        go true d false e = quiet (kept n e)
 
 pub still : Still
 still k m recovers p n = go (leb k m) refl

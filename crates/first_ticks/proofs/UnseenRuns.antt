@@ -16,12 +16,13 @@ use Rattle.fillings.proofs.Bools.{length-tabulate}
 use Rattle.states.specs.Records.{at, statesOf, ruleWords}
 use Rattle.states.specs.Steps.{setOf, evaluationsOf}
 use Rattle.states.specs.Readings.{allowed}
+use Rattle.fillings.proofs.UnseenStates.{below-top}
 use Rattle.states.proofs.Moving.{has-states}
 use Rattle.states.proofs.OneRule.{allowed-state}
 use Rattle.states.proofs.Tops.{top-fits, top-pos}
 use Rattle.first_ticks.specs.Firsts.{none, firstUnseen}
 use Rattle.first_ticks.proofs.Searches.{is-missing}
-use Rattle.first_ticks.proofs.Runs.{below-top, status-off, status-unseen}
+use Rattle.first_ticks.proofs.Runs.{status-off, status-unseen}
 use Rattle.first_ticks.proofs.RunTicks.{tickAfter, tick-missing, tick-found, tick-until}
 
 states-length : (w : List ℕ) (m : ℕ) → length (statesOf w m) ≡ suc m

@@ -1,61 +1,28 @@
 -- A rule at state 0 alone whose threshold is not met stays there.
 use Prim.Native.Nat.{ℕ, zero, suc, _+_, _*_, _/_, _%_, _≤_, _<_}
-use mathlib.Core.Path.{_≡_, refl, ap, ap₂, sym, _∙_, subst}
+use mathlib.Core.Path.{_≡_, refl, ap, sym, _∙_, subst}
 use mathlib.Core.List.{List, [], _∷_}
 use mathlib.Core.Bool.{Bool, true, false, not, cond, _&&_}
 use mathlib.Core.Logic.{⊎-elim}
 use native.Mathlib.Omega.{arith}
-use lib.Dec.{T, eqb, eqb→eq}
+use lib.Dec.{T, eqb}
 use lib.ListN.{getD, length, List·getD-eq-default}
 use lib.Seq.{ext-getD}
 use borrow.Author.Tests.{eq-eqb, ne-eqb}
 use Rattle.fillings.specs.PossibleStates.{tabulate, has, Moves, next, start}
-use Rattle.fillings.proofs.Bools.{and-left, and-right, bool-ext, has-tabulate, length-tabulate}
+use Rattle.fillings.proofs.Bools.{bool-ext, has-tabulate, length-tabulate}
 use Rattle.fillings.proofs.Next.{next-length, reached, by-restart}
 use Rattle.states.specs.Records.{statesOf, wordOf, wordsOf, ruleWords, recordWith}
+use Rattle.states.specs.Words.{Same}
 use Rattle.states.proofs.Bits.{below?, equal?}
 use Rattle.states.proofs.Packing.{states-words, same-sets}
 use Rattle.states.proofs.RuleWords.{record-length, record-at}
 use Rattle.states.proofs.EachRule.{word-of}
 
-five-words : (w v : List ℕ) → length w ≡ 5 → length v ≡ 5 → getD w 0 0 ≡ getD v 0 0 → getD w 1 0 ≡ getD v 1 0 → getD w 2 0 ≡ getD v 2 0
-    → getD w 3 0 ≡ getD v 3 0 → getD w 4 0 ≡ getD v 4 0 → w ≡ v
-five-words w v l m e₀ e₁ e₂ e₃ e₄ = ext-getD 0 w v (l ∙ sym m) each
-  where
-    each : (j : ℕ) → j < length w → getD w j 0 ≡ getD v j 0
-    each zero h = e₀
-    each (suc zero) h = e₁
-    each (suc (suc zero)) h = e₂
-    each (suc (suc (suc zero))) h = e₃
-    each (suc (suc (suc (suc zero)))) h = e₄
-    each (suc (suc (suc (suc (suc j))))) h = absurd (omega arith)
-
 -- The words of state 0 alone are 1, 0, 0, 0, 0.
-pub zero-words : (w : List ℕ) → length w ≡ 5
-    → (eqb (getD w 0 0) 1 && eqb (getD w 1 0) 0 && eqb (getD w 2 0) 0 && eqb (getD w 3 0) 0 && eqb (getD w 4 0) 0) ≡ true → w ≡ wordsOf (start 0)
+pub zero-words : (w : List ℕ) (r : Bool) → Same w (1 ∷ 0 ∷ 0 ∷ 0 ∷ 0 ∷ []) r → r ≡ true → w ≡ wordsOf (start 0)
 unfolding wordOf wordsOf
-zero-words w l e =
-    let t₄ = subst T (sym e) tt in
-    let t₃ = and-left (a && b && c && d) f t₄ in
-    let t₂ = and-left (a && b && c) d t₃ in
-    let t₁ = and-left (a && b) c t₂ in
-    five-words w (1 ∷ 0 ∷ 0 ∷ 0 ∷ 0 ∷ []) l refl (eqb→eq (getD w 0 0) 1 (and-left a b t₁)) (eqb→eq (getD w 1 0) 0 (and-right a b t₁))
-    (eqb→eq (getD w 2 0) 0 (and-right (a && b) c t₂)) (eqb→eq (getD w 3 0) 0 (and-right (a && b && c) d t₃)) (eqb→eq (getD w 4 0) 0 (and-right (a && b && c && d) f t₄))
-  where
-    a : Bool
-    a = eqb (getD w 0 0) 1
-
-    b : Bool
-    b = eqb (getD w 1 0) 0
-
-    c : Bool
-    c = eqb (getD w 2 0) 0
-
-    d : Bool
-    d = eqb (getD w 3 0) 0
-
-    f : Bool
-    f = eqb (getD w 4 0) 0
+zero-words w r s e = s .yes e
 
 -- The set of state 0 alone does not depend on the top state, but for its length.
 pub has-start : (m s : ℕ) → has (start m) s ≡ has (start 0) s

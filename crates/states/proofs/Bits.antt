@@ -1,10 +1,10 @@
 -- Laws of one bit of a word.
 use Prim.Native.Nat.{ℕ, zero, suc, _+_, _*_, _^_, _-_, _/_, _%_, _≤_, _<_}
-use mathlib.Core.Path.{_≡_, refl, ap, sym, _∙_}
+use mathlib.Core.Path.{_≡_, refl, ap, ap₂, sym, _∙_}
 use mathlib.Core.Bool.{Bool, true, false, _||_}
 use mathlib.Core.Logic.{_⊎_, inl, inr, ⊎-elim}
 use native.Mathlib.Omega.{arith}
-use native.Mathlib.Nat.{div-eq-of-lt, mod-lt, one-mul, pow-suc, eq-or-lt-of-le, div-eq-of-lt-le, lt-of-lt-of-le, le-of-eq, le-of-lt, mod-eq-of-lt}
+use native.Mathlib.Nat.{div-eq-of-lt, mod-lt, one-mul, pow-suc, eq-or-lt-of-le, div-eq-of-lt-le, lt-of-lt-of-le, le-of-eq, le-of-lt, mod-eq-of-lt, mul-assoc}
 use native.Mathlib.Numerals.{add-one}
 use lib.Dec.{eqb, ltb}
 use lib.Pow.{shr-shr, field, mod-mod-pow, pow-pos, pow-add, pow-lt, shl-shr}
@@ -118,3 +118,40 @@ bit-mod-above n k r h =
 -- a shift of 1 within a word
 pub one-shifted : (k : ℕ) → k < 64 → 1 * 2 ^ k % 2 ^ 64 ≡ 2 ^ k
 one-shifted k h = ap (λ (x : ℕ). x % 2 ^ 64) (one-mul (2 ^ k)) ∙ mod-eq-of-lt (pow-lt {j = 64} h)
+
+-- a shift down, and a shift up within and below its places
+pub bit-shr : (x a r : ℕ) → bit (x / 2 ^ a) r ≡ bit x (a + r)
+unfolding bit
+bit-shr x a r = ap (λ (n : ℕ). eqb (n % 2) 1) (shr-shr x a r)
+
+pub bit-shl : (x k r : ℕ) → k ≤ r → bit (x * 2 ^ k) r ≡ bit x (r - k)
+bit-shl x k r h =
+    let e : r ≡ k + (r - k) = omega arith in
+    ap (bit (x * 2 ^ k)) e ∙ sym (bit-shr (x * 2 ^ k) k (r - k)) ∙ ap (λ (n : ℕ). bit n (r - k)) (shl-shr x k)
+
+pub bit-shl-below : (x k r : ℕ) → r < k → bit (x * 2 ^ k) r ≡ false
+unfolding bit
+bit-shl-below x k r h =
+    let d : ℕ = k - r - 1 in
+    let e : k ≡ suc d + r = omega arith in
+    let q : x * 2 ^ k / 2 ^ r ≡ x * 2 ^ d * 2 =
+    ap (λ (n : ℕ). n / 2 ^ r) (ap (λ (n : ℕ). x * 2 ^ n) e ∙ ap (λ (n : ℕ). x * n) (pow-add 2 (suc d) r) ∙ sym (mul-assoc x (2 ^ suc d) (2 ^ r)))
+    ∙ shl-shr (x * 2 ^ suc d) r
+    ∙ ap (λ (n : ℕ). x * n) (pow-suc 2 d)
+    ∙ sym (mul-assoc x (2 ^ d) 2) in
+    let z : x * 2 ^ k / 2 ^ r % 2 ≡ 0 = omega arith in
+    ap (λ (n : ℕ). eqb n 1) z
+
+-- a word has no bit from 64 on
+pub bit-past : (x r : ℕ) → x < 2 ^ 64 → 64 ≤ r → bit x r ≡ false
+bit-past x r h l = ap (λ (n : ℕ). bit n r) (sym (mod-eq-of-lt h)) ∙ bit-mod-above x 64 r l
+
+-- 2 ^ k − 1 has every bit below k
+pub bit-ones : (k r : ℕ) → r < k → bit (2 ^ k - 1) r ≡ true
+unfolding bit
+bit-ones zero r h = absurd (omega arith)
+bit-ones (suc k) zero h =
+    let e : (2 ^ suc k - 1) / 2 ^ 0 % 2 ≡ 1 = omega (arith, pow-suc 2 k, pow-pos k) in ap (λ (n : ℕ). eqb n 1) e
+bit-ones (suc k) (suc r) h =
+    let e : 2 ^ suc k - 1 ≡ (2 ^ k - 1) * 2 + 1 = omega (arith, pow-suc 2 k, pow-pos k) in
+    ap₂ bit e (sym (add-one r)) ∙ bit-double (2 ^ k - 1) 1 r (omega arith) ∙ bit-ones k r (omega arith)

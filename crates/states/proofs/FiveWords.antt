@@ -212,9 +212,10 @@ some-word w i h f n =
 pub raised-up : {w r : List ℕ} → Up w r → Raised w true r
 raised-up u = record { first = u .first; next = u .next }
 
-pub raised-none : {w : List ℕ} → Raised w false (replicate 5 0)
+-- The words 0 have no bit.
+pub at-none : (p : ℕ) → at (replicate 5 0) p ≡ false
 unfolding at
-raised-none = record { first = none 0; next = λ p h. none (p + 1) }
-  where
-    none : (p : ℕ) → at (replicate 5 0) p ≡ false
-    none p = ap (λ (x : ℕ). bit x (p % 64)) (zeros 5 (p / 64)) ∙ bit-zero (p % 64)
+at-none p = ap (λ (x : ℕ). bit x (p % 64)) (zeros 5 (p / 64)) ∙ bit-zero (p % 64)
+
+pub raised-none : {w : List ℕ} → Raised w false (replicate 5 0)
+raised-none = record { first = at-none 0; next = λ p h. at-none (p + 1) }

@@ -1,6 +1,7 @@
 pub mod Bits
 pub mod FiveWords
 pub mod Packing
+pub mod ShiftedWords
 pub mod Moving
 pub mod RuleWords
 pub mod EachRule

@@ -1,33 +1,30 @@
 -- The record keeps a trace's possible states: from the start, over seen and unseen ticks, and in its flags.
-use Prim.Native.Nat.{ℕ, zero, suc, _+_, _/_, _%_, _≤_, _<_}
+use Prim.Native.Nat.{ℕ, suc, _+_, _/_, _%_, _≤_, _<_}
 use mathlib.Core.Path.{_≡_, refl, ap, ap₂, sym, _∙_, subst}
 use mathlib.Core.List.{List, [], _∷_}
 use mathlib.Core.Bool.{Bool, true, false, cond, _&&_}
-use mathlib.Core.Logic.{⊎-elim}
 use native.Mathlib.Omega.{arith}
 use lib.Dec.{ltb, eqb}
-use lib.ListN.{getD, length, List·getD-eq-default}
+use lib.ListN.{getD, length}
 use lib.Seq.{ext-getD}
-use borrow.Author.Tests.{eq-eqb, ne-eqb, ltb-false}
+use borrow.Author.Tests.{eq-eqb, ltb-false}
 use Rattle.rules.specs.Samples.{Sample, readingsOf}
 use Rattle.rules.specs.Table.{rowAt}
 use Rattle.rules.specs.Evaluation.{trips, clears, top, evaluated, alert, status}
 use Rattle.flags.specs.declared.RuleFlags.{RuleFlags}
 use Rattle.fillings.specs.Fillings.{Rule, last, Shown, seen, unseen, Pack, ruleOf}
-use Rattle.fillings.specs.PossibleStates.{tabulate, has, Moves, found, moves, next, start, possible, unseenTimes}
+use Rattle.fillings.specs.PossibleStates.{tabulate, Moves, found, moves, next, start, possible, unseenTimes}
 use Rattle.fillings.specs.Flags.{flag, alertFlag, statusFlag}
 use Rattle.fillings.specs.Demand3.{evaluations}
-use Rattle.fillings.proofs.Bools.{has-tabulate, length-tabulate}
 use Rattle.fillings.proofs.Still.{possible-length, possible-hole}
 use Rattle.states.specs.Records.{at, statesOf, wordsOf, ruleWords, recordWith, packed, fresh}
 use Rattle.states.specs.Steps.{settingOf, setOf, movesAt, seenWords, afterSeen, evaluationsOf, movesBetween, unseenWords, afterUnseen}
 use Rattle.states.specs.Readings.{flagsOf, allFlags}
 use Rattle.states.specs.Tracking.{recordAt, ShortTimes, Tracks, Determined}
-use Rattle.states.proofs.Packing.{wordsOf-length, states-words, same-sets}
+use Rattle.states.proofs.Packing.{wordsOf-length, states-words}
 use Rattle.states.proofs.AtZero.{start-words}
 use Rattle.states.proofs.RuleWords.{getD-tabulate, record-length, record-at}
 use Rattle.states.proofs.EachRule.{record-same, rule-new}
-use Rattle.states.proofs.Bits.{below?}
 use Rattle.states.proofs.RuleSteps.{seen-done, unseen-done}
 use Rattle.states.proofs.RuleFlagLaws.{unknown}
 use Rattle.states.proofs.OffRules.{off-possible}

@@ -1,16 +1,18 @@
 // A set of the states of one rule as five words: state s is bit s.
 ghost use mathlib.Core.Path.{_≡_};
 ghost use mathlib.Core.Bool.{true};
-ghost use Prim.Native.Nat.{_<_, _≤_};
+ghost use Prim.Native.Nat.{_<_, _≤_, min};
 ghost use lib.ListN.{getD};
 ghost use Rattle.fillings.specs.PossibleStates.{someBelow, next, start, unseenTimes};
 ghost use Rattle.rules.specs.Evaluation.{top, alert, status};
 ghost use Rattle.fillings.specs.Flags.{flag};
 ghost use Rattle.states.specs.Records.{at, statesOf, wordsOf};
-ghost use Rattle.states.specs.Words.{belowWord, Below, Up, Raised, With, Alerting};
+ghost use Rattle.states.specs.Words.{belowWord, Below, Up, Raised, With, Alerting, Same, WordsUp, Joined, Filled};
 use flags::Flag;
 
 const HALF: u64 = 9223372036854775808;
+
+const FULL: u64 = 18446744073709551615;
 
 // The top state of a rule, which fits its words.
 pub(crate) fn top_for(time: u8) -> usize
@@ -92,11 +94,17 @@ fn some(w: [u64; 5]) -> bool
     false
 }
 
+fn same(v: [u64; 5], w: [u64; 5]) -> bool
+    ensures { λ r. ⌜ Same v w r ⌝ }
+{
+    (v[0] == w[0]) & (v[1] == w[1]) & (v[2] == w[2]) & (v[3] == w[3]) & (v[4] == w[4])
+}
+
 // Whether state 0 alone is possible.
 pub(crate) fn at_zero(w: [u64; 5]) -> bool
     ensures { λ r. ⌜ (r ≡ true → w ≡ wordsOf (start 0)) ⌝ }
 {
-    (w[0] == 1) & (w[1] == 0) & (w[2] == 0) & (w[3] == 0) & (w[4] == 0)
+    same(w, [1, 0, 0, 0, 0])
 }
 
 // The words a place up, or none.
@@ -126,23 +134,65 @@ pub(crate) fn moved(
     with_state(kept, 0, zero)
 }
 
-// The states after n unseen evaluations, of which no more than the top state are walked.
+// The words q words up, with full words below.
+fn words_up(mut w: [u64; 5], q: usize) -> [u64; 5]
+    ensures { λ r. ⌜ WordsUp w q r ⌝ }
+{
+    let mut i: usize = 0;
+    while i < q {
+        let next = [FULL, w[0], w[1], w[2], w[3]];
+        w = next;
+        i += 1;
+    }
+    w
+}
+
+// The high word r places up, with the highest r bits of the low one below.
+fn joined(high: u64, low: u64, r: usize) -> u64
+    requires { ⌜ r < 64 ⌝ }
+    ensures { λ y. ⌜ Joined high low r y ⌝ }
+{
+    (high << r) | (low / 2 >> (63 - r))
+}
+
+// The states k up, and every state below k.
+fn filled(w: [u64; 5], k: usize) -> [u64; 5]
+    ensures { λ r. ⌜ Filled w k r ⌝ }
+{
+    let v = words_up(w, k / 64);
+    let r = k % 64;
+    let a = joined(v[0], FULL, r);
+    let b = joined(v[1], v[0], r);
+    let c = joined(v[2], v[1], r);
+    let d = joined(v[3], v[2], r);
+    let e = joined(v[4], v[3], r);
+    [a, b, c, d, e]
+}
+
+fn least(n: u64, top: usize) -> usize
+    ensures { λ k. ⌜ k ≡ min n top ⌝ }
+{
+    let end = top as u64;
+    if n < end { n as usize } else { top }
+}
+
+// The states after n unseen evaluations: each state below the top may count up or restart at any of them.
 pub(crate) fn many_unseen(w: [u64; 5], top: usize, recovers: bool, n: u64) -> [u64; 5]
     requires { ⌜ (0 < n) × ((0 < top) × (top ≤ 256)) ⌝ }
     ensures { λ r. ⌜ r ≡ wordsOf (unseenTimes n top recovers (statesOf w top)) ⌝ }
 {
-    let end = top as u64;
-    let mut v = moved(w, top, true, true, recovers, true);
-    let mut i: u64 = 1;
-    while i < n {
-        if i == end {
-            return v;
-        }
-        let after = moved(v, top, true, true, recovers, true);
-        v = after;
-        i += 1;
+    if n == 1 {
+        return moved(w, top, true, true, recovers, true);
     }
-    v
+    let held = test(w, top);
+    let low = below(w, top);
+    if some(low) | recovers & held {
+        let k = least(n, top);
+        let cut = below(w, top - k);
+        let up = filled(cut, k);
+        return with_state(up, top, held | !same(low, cut));
+    }
+    with_state([0; 5], top, held)
 }
 
 // Status over a set of the states 0 to top.

@@ -1,68 +1,113 @@
-use Prim.Native.Nat.{ℕ, _≤_, _-_}
+use Prim.Native.Nat.{ℕ}
 use mathlib.Core.Path.{_≡_}
-use mathlib.Core.List.{List}
-use native.Mathlib.Omega.{arith}
-use Rattle.fillings.specs.PossibleStates.{anything, next}
-use Rattle.states.specs.Records.{statesOf, wordsOf}
-use Rattle.states.proofs.ManyUnseen.{Walked, walked-start, walked-next, walked-top, walked-end}
+use lib.ListN.{getD, length}
+use mir.Val.{Fits}
+use mir.Syntax.{w64}
+use Rattle.states.proofs.ManyUnseen.{one-unseen, none-moves, some-move}
+use borrow.Author.Needs.{needs}
 use Rattle.states.proofs.words.many_unseen.Statement.{statement}
 use Rattle.states.proofs.words.many_unseen.Tie as tie
 
-abbrev Inv-loop : tie.InvT-loop
-Inv-loop top recovers n end v₀ i₀ v i =
-    (1 ≤ i) × (i ≤ n) × (i ≤ top)
-    × ((w : List ℕ) → v₀ ≡ wordsOf (next top (anything recovers) (statesOf w top)) → Walked w top recovers v i)
+moved-requires : tie.Need-moved-requires
+moved-requires c κs = search needs
 
-abbrev μ-loop : tie.MeasureT-loop
-μ-loop top recovers n end v₀ i₀ v i = n - i
-
-moved-requires : tie.Need-moved-requires Inv-loop μ-loop
-moved-requires c κs = omega arith
-
-loop-holds : tie.Need-loop-holds Inv-loop μ-loop
-loop-holds c = (
-  omega arith,
-  omega arith,
-  omega arith,
-  λ w e. walked-start w (c .before .args .top) (c .before .args .recovers) (c .before .pre .1 .0) (c .before .pre .1 .1) (c .moved .result) e,
-)
-
-returns : tie.Need-returns Inv-loop μ-loop
+returns : tie.Need-returns
 returns c =
-    walked-top _ _ _ (c .before .before .before .before .pre .1 .0) (c .before .before .before .before .pre .1 .1) _ _ _ (c .before .before .loop .inv .3 (c .before .before .before .before .args .w) (c .before .before .before .moved .ensures)) (c .if1 .taken) (c .before .loop-test .taken)
+    let start = c .before .before in
+    one-unseen (start .args .w) (c .moved .result) (start .args .top) (start .args .n) (start .args .recovers) (c .before .if1 .taken) (c .moved .ensures)
 
-moved-requires-2 : tie.Need-moved-requires-2 Inv-loop μ-loop
-moved-requires-2 c κs = omega arith
+test-requires : tie.Need-test-requires
+test-requires c κs = search needs
 
-add-i : tie.Need-add-i Inv-loop μ-loop
-add-i c = omega arith
+below-requires : tie.Need-below-requires
+below-requires c κs = search needs
 
-loop-less : tie.Need-loop-less Inv-loop μ-loop
-loop-less c = omega arith
+some-requires : tie.Need-some-requires
+some-requires c κs = search needs
 
-loop-again : tie.Need-loop-again Inv-loop μ-loop
-loop-again c = (
-  omega arith,
-  omega arith,
-  omega arith,
-  λ w e. walked-next w _ _ (c .before .before .before .before .before .pre .1 .0) (c .before .before .before .before .before .pre .1 .1) _ _ _ (c .before .before .before .loop .inv .3 w e) (c .before .if1 .left) (c .moved2 .ensures),
-)
+least-requires : tie.Need-least-requires
+least-requires c κs = search needs
 
-returns-2 : tie.Need-returns-2 Inv-loop μ-loop
+sub-below : tie.Need-sub-below
+sub-below c = search needs
+
+below-requires-2 : tie.Need-below-requires-2
+below-requires-2 c κs = search needs
+
+filled-requires : tie.Need-filled-requires
+filled-requires c κs = search needs
+
+same-requires : tie.Need-same-requires
+same-requires c κs = search needs
+
+with-state-requires : tie.Need-with-state-requires
+with-state-requires c κs = search needs
+
+low-fits : (c : tie.After-below) (j : ℕ) → Fits w64 (getD (c .below .result) j 0)
+low-fits c j = search needs
+
+low-long : (c : tie.After-below) → length (c .below .result) ≡ 5
+low-long c = search needs
+
+cut-fits : (c : tie.After-below2) (j : ℕ) → Fits w64 (getD (c .below2 .result) j 0)
+cut-fits c j = search needs
+
+cut-long : (c : tie.After-below2) → length (c .below2 .result) ≡ 5
+cut-long c = search needs
+
+fits : (c : tie.After-with-state) (j : ℕ) → Fits w64 (getD (c .with-state .result) j 0)
+fits c j = search needs
+
+returns-2 : tie.Need-returns-2
 returns-2 c =
-    walked-end _ _ _ (c .before .before .before .pre .1 .0) (c .before .before .before .pre .1 .1) _ _ _ (c .before .loop .inv .3 (c .before .before .before .args .w) (c .before .before .moved .ensures)) (omega arith)
+    let up = c .before .before in
+    let cut = up .before in
+    let least = cut .before in
+    let test = least .before in
+    let some = test .before in
+    let low = some .before in
+    let held = low .before in
+    let start = held .before .before in
+    let a = start .args in
+    some-move (a .w) (a .top) (a .recovers) (start .pre .1 .0) (start .pre .1 .1)
+    (low .below .result) (cut .below2 .result) (up .filled .result) (c .with-state .result) (a .n) (least .least .result)
+    (some .some .result) (held .test .result) (c .before .same .result)
+    (low .below .ensures) (some .some .ensures) (held .test .ensures) (test .if2 .taken) (least .least .ensures) (cut .below2 .ensures)
+    (up .filled .ensures) (c .before .same .ensures) (c .with-state .ensures)
+    (low-long low) (λ j. low-fits low j .fits) (cut-long cut) (λ j. cut-fits cut j .fits) (search (needs, c .with-state .ok)) (λ j. fits c j .fits)
+
+with-state-requires-2 : tie.Need-with-state-requires-2
+with-state-requires-2 c κs = search needs
+
+fits-2 : (c : tie.After-with-state2) (j : ℕ) → Fits w64 (getD (c .with-state2 .result) j 0)
+fits-2 c j = search needs
+
+returns-3 : tie.Need-returns-3
+returns-3 c =
+    let test = c .before in
+    let some = test .before in
+    let low = some .before in
+    let held = low .before in
+    let start = held .before .before in
+    let a = start .args in
+    none-moves (a .w) (a .top) (a .recovers) (start .pre .1 .0) (start .pre .1 .1) (low .below .result) (c .with-state2 .result) (a .n) (some .some .result) (held .test .result)
+    (low .below .ensures) (some .some .ensures) (held .test .ensures) (test .if2 .left) (c .with-state2 .ensures) (search needs) (λ j. fits-2 c j .fits)
 
 pub many-unseen-spec : {M : Type 1} → statement M
 many-unseen-spec =
     tie.close
     (tie.spec
-    Inv-loop
-    μ-loop
     moved-requires
-    loop-holds
     returns
-    moved-requires-2
-    add-i
-    loop-less
-    loop-again
-    returns-2)
+    test-requires
+    below-requires
+    some-requires
+    least-requires
+    sub-below
+    below-requires-2
+    filled-requires
+    same-requires
+    with-state-requires
+    returns-2
+    with-state-requires-2
+    returns-3)
