@@ -11,7 +11,7 @@ use Rattle.rules.specs.declared.Row.{Row}
 use Rattle.rules.specs.declared.Setting.{Setting}
 use Rattle.rules.specs.declared.Readings.{Readings}
 use Rattle.rules.specs.declared.Found.{Found}
-use Rattle.rules.specs.Table.{rows, rowAt}
+use Rattle.rules.specs.Table.{rowAt}
 use Rattle.rules.specs.Evaluation.{trips, clears, top, evaluated}
 use Rattle.fillings.specs.PossibleStates.{found, next, unseenTimes}
 use Rattle.fillings.specs.Demand3.{evaluations}
@@ -129,12 +129,3 @@ module _ (ss : List Setting) (first last : ℕ) (ws₀ : List ℕ) where
   unfolding afterUnseen
   unseen-kept n =
       sym (ap (λ (b : Bool). cond b (recordWith (λ i. movesBetween first last (settingOf ss i) i) (λ i. unseenWords first last (settingOf ss i) i ws₀) ws₀) ws₀) (ne-eqb (length ws₀) 80 n))
-
--- The row of a rule in the table by value.
-pub row-of : (t : List Row) (i : ℕ) (d : Row) → t ≡ rows → i < 16 → getD t i d ≡ rowAt i
-row-of t i d e h = ap (λ (x : List Row). getD x i d) e ∙ any-default rows i d _ h
-  where
-    any-default : (l : List Row) (i : ℕ) (d d′ : Row) → i < length l → getD l i d ≡ getD l i d′
-    any-default [] i d d′ h = absurd (omega arith)
-    any-default (x ∷ l) zero d d′ h = refl
-    any-default (x ∷ l) (suc i) d d′ h = any-default l i d d′ (omega arith)

@@ -176,7 +176,8 @@ fn least(n: u64, top: usize) -> usize
     if n < end { n as usize } else { top }
 }
 
-// The states after n unseen evaluations: each state below the top may count up or restart at any of them.
+// The states after n unseen evaluations. If 0 can be reached: all below k, those that count up k times, and the top if it was
+// held or one comes to it. If not, nothing moves.
 pub(crate) fn many_unseen(w: [u64; 5], top: usize, recovers: bool, n: u64) -> [u64; 5]
     requires { ⌜ (0 < n) × ((0 < top) × (top ≤ 256)) ⌝ }
     ensures { λ r. ⌜ r ≡ wordsOf (unseenTimes n top recovers (statesOf w top)) ⌝ }

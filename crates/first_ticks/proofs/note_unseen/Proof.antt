@@ -3,7 +3,7 @@ use mathlib.Core.Path.{sym, _∙_}
 use native.Mathlib.Omega.{arith}
 use borrow.Author.Needs.{needs}
 use borrow.Author.Tests.{eq-eqb, ne-eqb}
-use Rattle.states.proofs.RuleSteps.{row-of}
+use Rattle.rules.proofs.Rows.{row-of}
 use Rattle.first_ticks.proofs.Entries.{Noting, noting-start, noting-next, unseenEntry, unseen-end}
 use Rattle.first_ticks.proofs.note_unseen.Statement.{statement}
 use Rattle.first_ticks.proofs.note_unseen.Tie as tie

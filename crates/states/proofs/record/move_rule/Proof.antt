@@ -34,7 +34,10 @@ same-length-2 c = search needs
 returns-2 : tie.Need-returns-2
 returns-2 c =
     let move = c .before .before .before .before in
-    moved-stored _ _ _ _ _ _ _ (c .before .before .store .ensures) (move .moved .ensures) (move .before .before .before .load .ensures)
+    let load = move .before .before .before .load in
+    let a = move .before .before .before .before .before .before .args in
+    moved-stored (a .words .now) (c .before .before .store .last .0) (load .result) (move .moved .result) (a .i) (a .top) (record { up = a .up; restart = a .restart; leave = a .leave; stay = a .stay })
+    (c .before .before .store .ensures) (move .moved .ensures) (load .ensures)
 
 pub move-rule-spec : {M : Type 1} → statement M
 move-rule-spec =

@@ -3,7 +3,8 @@ use mathlib.Core.Path.{sym, _∙_}
 use native.Mathlib.Omega.{arith}
 use borrow.Author.Needs.{needs}
 use Rattle.states.proofs.EachRule.{moving-start, moving-length}
-use Rattle.states.proofs.RuleSteps.{Missing, missing-next, missing-end, unseen-kept, row-of}
+use Rattle.states.proofs.RuleSteps.{Missing, missing-next, missing-end, unseen-kept}
+use Rattle.rules.proofs.Rows.{row-of}
 use Rattle.states.proofs.unseen.miss.Statement.{statement}
 use Rattle.states.proofs.unseen.miss.Tie as tie
 
