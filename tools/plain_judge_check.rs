@@ -143,7 +143,10 @@ fn stretched(t: &Trace, k: usize, by: u32, kept: usize) -> Trace {
 // A hole of over 512 ticks may grow by an even number: the states after it are the same, and all later ticks move.
 fn stretch(x: &mut Random) -> bool {
     let t = random_trace(x, true);
-    let Some(k) = t.holes.iter().position(|h| h.1 - h.0 > 512) else { return false };
+    let k = match t.holes.iter().position(|h| h.1 - h.0 > 512) {
+        Some(k) => k,
+        None => return false,
+    };
     let (end, ticks) = (t.holes[k].1, t.samples.len() as u32 + t.holes.iter().map(|h| h.1 - h.0 + 1).sum::<u32>());
     let most = (u32::MAX - ticks) / 2;
     let by = 2 * if x.one_in(2) { most } else { x.within(0, most as i64) as u32 };

@@ -196,8 +196,8 @@ fn spoil_hole(x: &mut Random, t: &mut Trace) {
     let h = &mut t.holes[k];
     match x.within(0, 6) {
         0 => *h = (h.1, h.0),
-        1 => h.0 = h.0.wrapping_add_signed(x.pick(&[-1, 1])),
-        2 => h.1 = h.1.wrapping_add_signed(x.pick(&[-1, 1])),
+        1 => h.0 = h.0.wrapping_add(x.pick(&[u32::MAX, 1])),
+        2 => h.1 = h.1.wrapping_add(x.pick(&[u32::MAX, 1])),
         3 => h.1 = x.pick(&[u32::MAX - 1, u32::MAX]),
         4 => *h = (h.0, h.0),
         5 => drop(t.holes.remove(k)),
@@ -212,7 +212,7 @@ fn spoil_sample(x: &mut Random, t: &mut Trace) {
     let k = x.within(0, t.samples.len() as i64 - 1) as usize;
     let tick = t.samples[k].tick;
     match x.within(0, 3) {
-        0 => t.samples[k].tick = tick.wrapping_add_signed(x.pick(&[-1, 1])),
+        0 => t.samples[k].tick = tick.wrapping_add(x.pick(&[u32::MAX, 1])),
         1 => t.samples[k].tick = x.pick(&[u32::MAX, u32::MAX - 1, tick / 2]),
         2 => drop(t.samples.remove(k)),
         _ => t.samples.insert(k, t.samples[k].clone()),
