@@ -9,13 +9,17 @@ use lib.Dec.{T, eqb}
 use lib.ListN.{getD, length, List·getD-eq-default}
 use lib.Seq.{ext-getD}
 use borrow.Author.Tests.{eq-eqb, ne-eqb}
+use Rattle.rules.specs.Evaluation.{status}
+use Rattle.flags.specs.declared.Flag.the-variants.{Clear}
 use Rattle.fillings.specs.PossibleStates.{tabulate, has, Moves, next, start}
-use Rattle.fillings.proofs.Bools.{bool-ext, has-tabulate, length-tabulate}
+use Rattle.fillings.specs.Flags.{flag}
+use Rattle.fillings.proofs.Bools.{bool-ext, refuted, has-tabulate, length-tabulate}
 use Rattle.fillings.proofs.Next.{next-length, reached, by-restart}
-use Rattle.states.specs.Records.{statesOf, wordOf, wordsOf, ruleWords, recordWith}
+use Rattle.states.specs.Records.{at, statesOf, wordOf, wordsOf, ruleWords, recordWith}
 use Rattle.states.specs.Words.{Same}
 use Rattle.states.proofs.Bits.{below?, equal?}
-use Rattle.states.proofs.Packing.{states-words, same-sets}
+use Rattle.states.proofs.Packing.{at-wordsOf, states-words, same-sets}
+use Rattle.states.proofs.SetFlags.{status-clear}
 use Rattle.states.proofs.RuleWords.{record-length, record-at}
 use Rattle.states.proofs.EachRule.{word-of}
 
@@ -104,3 +108,9 @@ pub zero-stays : (ws w : List ℕ) (i m : ℕ) (mv : Moves) (alone : Bool) → l
 zero-stays ws w i m mv alone l pos fits e z r =
     sym (same-rule ws (wordsOf (next m mv (statesOf (ruleWords ws i) m))) i l
     (zero-kept (ruleWords ws i) m mv (sym r ∙ z (is-alone (mv .restart) (mv .up) alone e)) pos fits (is-not-up (mv .restart) (mv .up) alone e) (is-restart (mv .restart) (mv .up) alone e)))
+
+-- Its status is clear.
+pub zero-clear : (w : List ℕ) (m : ℕ) (mv : Moves) (alone : Bool) → 0 < m → m ≤ 256 → (mv .restart && not (mv .up) && alone) ≡ true → (alone ≡ true → w ≡ wordsOf (start 0))
+    → Clear ≡ flag m (status m) (statesOf w m)
+zero-clear w m mv alone pos fits e z =
+    status-clear w m fits pos (ap (λ (v : List ℕ). at v m) (z (is-alone (mv .restart) (mv .up) alone e)) ∙ at-wordsOf (start 0) m (omega arith) ∙ sym (has-start m m) ∙ refuted (has (start m) m) (λ t. let n : m ≡ 0 = start-zero m m t in omega arith))

@@ -11,6 +11,9 @@ use lib.Dec.{eqb, ltb}
 use lib.ListN.{getD, length, take, drop}
 use lib.Seq.{getD-take, getD-drop, ext-getD}
 use borrow.Author.Tests.{eq-eqb, ne-eqb, lt-ltb, le-ltb}
+use Rattle.rules.specs.Evaluation.{status}
+use Rattle.flags.specs.declared.Flag.{Flag}
+use Rattle.fillings.specs.Flags.{flag}
 use Rattle.fillings.specs.PossibleStates.{Moves, next}
 use Rattle.states.specs.Records.{statesOf, wordsOf, ruleWords, recordWith}
 use Rattle.states.proofs.Bits.{below?, equal?}
@@ -113,6 +116,14 @@ pub moved-stored : (ws out w v : List ℕ) (i m : ℕ) (mv : Moves) → out ≡ 
     → out ≡ recordWith (λ j. eqb j i) (λ j. wordsOf (next m mv (statesOf (ruleWords ws i) m))) ws
 moved-stored ws out w v i m mv o e l =
     o ∙ ap (λ (x : List ℕ). recordWith (λ j. eqb j i) (λ j. x) ws) (e ∙ ap (λ (x : List ℕ). wordsOf (next m mv (statesOf x m))) l)
+
+-- Its flag is that of the words that were stored.
+pub stored-flag : (ws out v : List ℕ) (i m : ℕ) (f : Flag) → i < 16 → length v ≡ 5 → out ≡ recordWith (λ j. eqb j i) (λ j. v) ws
+    → f ≡ flag m (status m) (statesOf v m) → f ≡ flag m (status m) (statesOf (ruleWords out i) m)
+stored-flag ws out v i m f h l o e =
+    e
+    ∙ ap (λ (x : List ℕ). flag m (status m) (statesOf x m))
+    (sym (ap (λ (x : List ℕ). ruleWords x i) o ∙ rule-new (λ j. eqb j i) (λ j. v) ws i h l (eq-eqb i i refl)))
 
 -- One rule that stays as it is, and one that moves.
 pub rule-stays : (b : Bool) (new : ℕ → List ℕ) (ws : List ℕ) (i : ℕ) → length ws ≡ 80 → b ≡ false → ws ≡ recordWith (λ j. eqb j i && b) new ws

@@ -44,3 +44,8 @@ module _ (ws : List ℕ) (i : ℕ) (long : length ws ≡ 80) (rule : i < 16) whe
       go : (n : ℕ) → n ≡ m → Clear ≡ flag m (status m) (statesOf (ruleWords ws i) m)
       go zero z = status-off (ruleWords ws i) ∙ ap (λ (n : ℕ). flag n (status n) (statesOf (ruleWords ws i) n)) z
       go (suc n) z = status-clear (ruleWords ws i) m l (omega arith) (sym (allowed-state m (omega arith)) ∙ h)
+
+  -- a rule that is switched off is clear
+  pub status-of-off : (s : Setting) → s .time ≡ 0 → Clear ≡ statusIn s i ws
+  status-of-off s e =
+      status-off (ruleWords ws i) ∙ ap (λ (t : ℕ). flag (top t) (status (top t)) (statesOf (ruleWords ws i) (top t))) (sym e) ∙ sym (status-of-rule s)

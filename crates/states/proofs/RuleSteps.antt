@@ -17,7 +17,7 @@ use Rattle.fillings.specs.PossibleStates.{found, next, unseenTimes}
 use Rattle.fillings.specs.Demand3.{evaluations}
 use Rattle.states.specs.Records.{statesOf, wordsOf, ruleWords, recordWith}
 use Rattle.states.proofs.EachRule.{rule-moves, Moving, moving-read, moving-next, moving-end}
-use Rattle.states.specs.Steps.{settingOf, movesAt, seenWords, afterSeen, evaluationsOf, movesBetween, unseenWords, afterUnseen}
+use Rattle.states.specs.Steps.{settingOf, movesBy, movesAt, seenBy, seenWords, afterSeen, evaluationsOf, movesBetween, unseenWords, afterUnseen}
 
 pub positive : (t : ℕ) → (t ≡ 0 → ⊥) → 0 < t
 positive zero n = absurd (n refl)
@@ -33,24 +33,20 @@ idle-stays t b e = ap (λ (x : Bool). ltb 0 t && x) e ∙ and-false (ltb 0 t)
 pub on-moves : (t : ℕ) (b : Bool) → (t ≡ 0 → ⊥) → b ≡ true → (ltb 0 t && b) ≡ true
 on-moves t b n e = ap₂ _&&_ (lt-ltb 0 t (positive t n)) e
 
-pub evaluated-here : (i tick : ℕ) (row : Row) {b v : Bool} → row ≡ rowAt i → b ≡ evaluated row tick → b ≡ v → evaluated (rowAt i) tick ≡ v
-evaluated-here i tick row er eb e = sym (ap (λ (x : Row). evaluated x tick) er) ∙ sym eb ∙ e
-
-pub seen-words : (idle : ℕ) (r : Readings) (s : Setting) (i : ℕ) (ws : List ℕ) (row : Row) (f : Found) (m : ℕ) → row ≡ rowAt i
+pub seen-words : (idle : ℕ) (r : Readings) (s : Setting) (i : ℕ) (ws : List ℕ) (row : Row) (f : Found) (m : ℕ)
     → f ≡ record { trips = trips idle row s r; clears = clears row s r } → m ≡ top (s .time)
-    → wordsOf (next m (found (f .trips) (f .clears)) (statesOf (ruleWords ws i) m)) ≡ seenWords idle r s i ws
-seen-words idle r s i ws row f m er ef em =
+    → wordsOf (next m (found (f .trips) (f .clears)) (statesOf (ruleWords ws i) m)) ≡ seenBy row idle r s i ws
+seen-words idle r s i ws row f m ef em =
     ap (λ (x : ℕ). wordsOf (next x (found (f .trips) (f .clears)) (statesOf (ruleWords ws i) x))) em
     ∙ ap (λ (x : Found). wordsOf (next (top (s .time)) (found (x .trips) (x .clears)) (statesOf (ruleWords ws i) (top (s .time))))) ef
-    ∙ ap (λ (x : Row). wordsOf (next (top (s .time)) (found (trips idle x s r) (clears x s r)) (statesOf (ruleWords ws i) (top (s .time))))) er
 
-pub seen-moves : (idle tick i m : ℕ) (r : Readings) (s : Setting) (ws out : List ℕ) (row : Row) (f : Found) (b : Bool) → row ≡ rowAt i → (s .time ≡ 0 → ⊥)
+pub seen-moves : (idle tick i m : ℕ) (r : Readings) (s : Setting) (ws out : List ℕ) (row : Row) (f : Found) (b : Bool) → (s .time ≡ 0 → ⊥)
     → b ≡ evaluated row tick → b ≡ true → f ≡ record { trips = trips idle row s r; clears = clears row s r } → m ≡ top (s .time)
     → out ≡ recordWith (λ j. eqb j i) (λ j. wordsOf (next m (found (f .trips) (f .clears)) (statesOf (ruleWords ws i) m))) ws
-    → out ≡ recordWith (λ j. eqb j i && movesAt tick s i) (λ j. seenWords idle r s i ws) ws
-seen-moves idle tick i m r s ws out row f b er n eb e ef em o =
-    rule-moves (movesAt tick s i) (wordsOf (next m (found (f .trips) (f .clears)) (statesOf (ruleWords ws i) m))) (seenWords idle r s i ws) ws out i
-    (on-moves (s .time) (evaluated (rowAt i) tick) n (evaluated-here i tick row er eb e)) o (seen-words idle r s i ws row f m er ef em)
+    → out ≡ recordWith (λ j. eqb j i && movesBy row tick s) (λ j. seenBy row idle r s i ws) ws
+seen-moves idle tick i m r s ws out row f b n eb e ef em o =
+    rule-moves (movesBy row tick s) (wordsOf (next m (found (f .trips) (f .clears)) (statesOf (ruleWords ws i) m))) (seenBy row idle r s i ws) ws out i
+    (on-moves (s .time) (evaluated row tick) n (sym eb ∙ e)) o (seen-words idle r s i ws row f m ef em)
 
 pub seen-read : (idle : ℕ) (r : Readings) (s : Setting) (i : ℕ) (ws vs : List ℕ) → ruleWords ws i ≡ ruleWords vs i → seenWords idle r s i ws ≡ seenWords idle r s i vs
 seen-read idle r s i ws vs e =
@@ -83,10 +79,11 @@ module _ (ss : List Setting) (idle tick : ℕ) (r : Readings) (ws₀ : List ℕ)
   abbrev pub Seeing : List ℕ → ℕ → Type 0
   Seeing ws i = Moving (λ j. movesAt tick (settingOf ss j) j) (λ j. seenWords idle r (settingOf ss j) j ws₀) ws₀ ws i
 
-  pub seeing-next : (ws out : List ℕ) (i : ℕ) → Seeing ws i → i < 16
-      → out ≡ recordWith (λ j. eqb j i && movesAt tick (settingOf ss i) i) (λ j. seenWords idle r (settingOf ss i) i ws) ws → Seeing out (i + 1)
-  seeing-next ws out i g h o =
-      moving-next (λ j. movesAt tick (settingOf ss j) j) (λ j. seenWords idle r (settingOf ss j) j ws₀) ws₀ ws out (seenWords idle r (settingOf ss i) i ws) i g h o
+  pub seeing-next : (ws out : List ℕ) (i : ℕ) (row : Row) → row ≡ rowAt i → Seeing ws i → i < 16
+      → out ≡ recordWith (λ j. eqb j i && movesBy row tick (settingOf ss i)) (λ j. seenBy row idle r (settingOf ss i) i ws) ws → Seeing out (i + 1)
+  seeing-next ws out i row er g h o =
+      moving-next (λ j. movesAt tick (settingOf ss j) j) (λ j. seenWords idle r (settingOf ss j) j ws₀) ws₀ ws out (seenWords idle r (settingOf ss i) i ws) i g h
+      (o ∙ ap (λ (x : Row). recordWith (λ j. eqb j i && movesBy x tick (settingOf ss i)) (λ j. seenBy x idle r (settingOf ss i) i ws) ws) er)
       (seen-read idle r (settingOf ss i) i ws ws₀ (moving-read (λ j. movesAt tick (settingOf ss j) j) (λ j. seenWords idle r (settingOf ss j) j ws₀) ws₀ ws i g h))
 
   pub seen-done : (out : List ℕ) → length ws₀ ≡ 80

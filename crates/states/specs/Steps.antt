@@ -4,6 +4,7 @@ use mathlib.Core.Bool.{Bool, cond, _&&_}
 use mathlib.Core.List.{List}
 use lib.Dec.{ltb, eqb}
 use lib.ListN.{getD, length}
+use Rattle.rules.specs.declared.Row.{Row}
 use Rattle.rules.specs.declared.Setting.{Setting}
 use Rattle.rules.specs.declared.Readings.{Readings}
 use Rattle.rules.specs.Table.{rowAt}
@@ -21,15 +22,28 @@ settingOf ss i = getD ss i off
 abbrev pub setOf : Setting → ℕ → List ℕ → List Bool
 setOf s i ws = statesOf (ruleWords ws i) (top (s .time))
 
--- Whether a seen tick moves rule i: it is switched on and evaluated there.
+-- Whether a seen tick moves a rule of a row: it is switched on and evaluated there.
+abbrev pub movesBy : Row → ℕ → Setting → Bool
+movesBy row tick s = ltb 0 (s .time) && evaluated row tick
+
+-- Whether it moves rule i.
 abbrev pub movesAt : ℕ → Setting → ℕ → Bool
-movesAt tick s i = ltb 0 (s .time) && evaluated (rowAt i) tick
+movesAt tick s i = movesBy (rowAt i) tick s
+
+-- The words of rule i after a seen evaluation by a row.
+abbrev pub seenBy : Row → ℕ → Readings → Setting → ℕ → List ℕ → List ℕ
+seenBy row idle r s i ws = wordsOf (next (top (s .time)) (found (trips idle row s r) (clears row s r)) (setOf s i ws))
 
 -- The words of rule i after a seen evaluation.
 abbrev pub seenWords : ℕ → Readings → Setting → ℕ → List ℕ → List ℕ
-seenWords idle r s i ws = wordsOf (next (top (s .time)) (found (trips idle (rowAt i) s r) (clears (rowAt i) s r)) (setOf s i ws))
+seenWords idle r s i ws = seenBy (rowAt i) idle r s i ws
 
--- The record after a seen tick. A list that is not eighty words long is no record and stays as it is.
+-- The record after a seen tick of rule i alone, by a row. A list that is not eighty words long is no record and stays as it is.
+unfoldable pub afterSeenRule : Row → Setting → ℕ → ℕ → Readings → ℕ → List ℕ → List ℕ
+afterSeenRule row s idle tick r i ws =
+    cond (eqb (length ws) 80 && ltb i 16) (recordWith (λ j. eqb j i && movesBy row tick s) (λ j. seenBy row idle r s i ws) ws) ws
+
+-- The record after a seen tick of all rules.
 unfoldable pub afterSeen : List Setting → ℕ → ℕ → Readings → List ℕ → List ℕ
 afterSeen ss idle tick r ws =
     cond (eqb (length ws) 80) (recordWith (λ i. movesAt tick (settingOf ss i) i) (λ i. seenWords idle r (settingOf ss i) i ws) ws) ws

@@ -18,6 +18,7 @@ pub use reading::status_in;
 use rules::Readings;
 use rules::Settings;
 pub use seen::see;
+pub use seen::see_rule;
 pub use unseen::evaluations_in;
 pub use unseen::miss;
 

@@ -4,36 +4,39 @@ ghost use mathlib.Core.Bool.{not, _&&_};
 ghost use Prim.Native.Nat.{_<_};
 ghost use lib.Dec.{eqb};
 ghost use lib.ListN.{length};
-ghost use Rattle.rules.specs.Table.{rowAt};
 ghost use Rattle.states.specs.Records.{recordWith};
-ghost use Rattle.states.specs.Steps.{movesAt, seenWords, afterSeen};
+ghost use Rattle.states.specs.Steps.{movesBy, seenBy, afterSeenRule, afterSeen};
+ghost use Rattle.states.specs.Readings.{statusIn};
+use crate::reading::status_in;
 use crate::record::move_rule;
 use crate::words::top_for;
+use flags::Flag;
 use rules::Readings;
 use rules::Row;
 use rules::Setting;
 use rules::Settings;
 
-fn see_rule(
+fn step_rule(
     words: &mut [u64],
     i: usize,
     row: Row,
+    setting: Setting,
     idle: u16,
     tick: u32,
-    setting: Setting,
     readings: Readings,
-)
-    requires { ⌜ (length (now words) ≡ 80) × ((i < 16) × (row ≡ rowAt i)) ⌝ }
-    ensures { λ _. ⌜ now (words .exit) ≡ recordWith (λ j. eqb j i && movesAt tick setting i) (λ j. seenWords idle readings setting i (now (words .entry))) (now (words .entry)) ⌝ }
+) -> Flag
+    requires { ⌜ (length (now words) ≡ 80) × (i < 16) ⌝ }
+    ensures words { λ _. ⌜ now (words .exit) ≡ recordWith (λ j. eqb j i && movesBy row tick setting) (λ j. seenBy row idle readings setting i (now (words .entry))) (now (words .entry)) ⌝ }
+    ensures status { λ r. ⌜ r ≡ statusIn setting i (now (words .exit)) ⌝ }
 {
     let time = setting.time;
     if time == 0 {
-        return;
+        return Flag::Clear;
     }
     if rules::evaluated_at(row, tick) {
         let found = rules::evaluate(row, idle, setting, readings);
         let top = top_for(time);
-        move_rule(
+        return move_rule(
             words,
             i,
             top,
@@ -43,6 +46,29 @@ fn see_rule(
             !found.clears,
         );
     }
+    status_in(words, i, setting)
+}
+
+// Moves rule i, by a row of the table, by a seen tick, where the record stands, and answers its status.
+pub fn see_rule(
+    words: &mut [u64],
+    i: usize,
+    row: Row,
+    setting: Setting,
+    idle: u16,
+    tick: u32,
+    readings: Readings,
+) -> Flag
+    ensures words { λ _. ⌜ now (words .exit) ≡ afterSeenRule row setting idle tick readings i (now (words .entry)) ⌝ }
+    ensures status { λ r. ⌜ r ≡ statusIn setting i (now (words .exit)) ⌝ }
+{
+    if words.len() != 80 {
+        return Flag::Unknown;
+    }
+    if i < 16 {
+        return step_rule(words, i, row, setting, idle, tick, readings);
+    }
+    Flag::Unknown
 }
 
 // Moves all rules by a seen tick, where the record stands.
@@ -57,7 +83,7 @@ pub fn see(words: &mut [u64], settings: Settings, idle: u16, tick: u32, readings
     while i < 16 {
         let setting = settings.of[i];
         let row = table.of[i];
-        see_rule(words, i, row, idle, tick, setting, readings);
+        step_rule(words, i, row, setting, idle, tick, readings);
         i += 1;
     }
 }

@@ -35,9 +35,9 @@ mul-row c = omega arith
 element-copy-out-row : tie.Need-element-copy-out-row Inv-loop μ-loop
 element-copy-out-row c = omega arith
 
-see-rule-requires : tie.Need-see-rule-requires Inv-loop μ-loop
-see-rule-requires c κs =
-    let h = c .before .before .before .loop-test .taken in (moving-length _ _ _ _ _ (c .before .before .before .before .loop .inv), (h, row-of _ _ _ (c .before .before .before .before .before .all-rows .ensures) h))
+step-rule-requires : tie.Need-step-rule-requires Inv-loop μ-loop
+step-rule-requires c κs =
+    let h = c .before .before .before .loop-test .taken in (moving-length _ _ _ _ _ (c .before .before .before .before .loop .inv), h)
 
 add-i : tie.Need-add-i Inv-loop μ-loop
 add-i c = omega arith
@@ -48,7 +48,7 @@ loop-less c = omega arith
 loop-again : tie.Need-loop-again Inv-loop μ-loop
 loop-again c =
     let a = c .before .before .before .before .before .before .before .before .before .before .before .args in
-    seeing-next (a .t2 .of) (a .idle) (a .tick) (a .readings) (a .words .now) (c .before .before .before .before .before .before .before .loop .words) (c .before .before .see-rule .last .0) (c .before .before .before .before .before .before .before .loop .i) (c .before .before .before .before .before .before .before .loop .inv) (c .before .before .before .before .before .before .loop-test .taken) (c .before .before .see-rule .ensures)
+    seeing-next (a .t2 .of) (a .idle) (a .tick) (a .readings) (a .words .now) (c .before .before .before .before .before .before .before .loop .words) (c .before .before .step-rule .last .0) (c .before .before .before .before .before .before .before .loop .i) _ (row-of _ _ _ (c .before .before .before .before .before .before .before .before .all-rows .ensures) (c .before .before .before .before .before .before .loop-test .taken)) (c .before .before .before .before .before .before .before .loop .inv) (c .before .before .before .before .before .before .loop-test .taken) (c .before .before .step-rule .ensures .0)
 
 same-length : tie.Need-same-length Inv-loop μ-loop
 same-length c = moving-length _ _ _ _ _ (c .before .loop .inv) ∙ sym (c .before .loop .inv .long)
@@ -69,7 +69,7 @@ see-spec =
     element-copy-out-setting
     mul-row
     element-copy-out-row
-    see-rule-requires
+    step-rule-requires
     add-i
     loop-less
     loop-again
