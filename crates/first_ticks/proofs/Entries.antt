@@ -1,7 +1,7 @@
 -- The first ticks of sixteen rules, noted one after the other.
 use Prim.Native.Nat.{ℕ, _+_, _≤_, _<_}
 use mathlib.Core.Path.{_≡_, refl, ap, sym, _∙_}
-use mathlib.Core.Bool.{Bool, cond}
+use mathlib.Core.Bool.{Bool, false, cond}
 use mathlib.Core.List.{List}
 use native.Mathlib.Omega.{arith}
 use lib.ListN.{getD, length, set, length-set}
@@ -10,12 +10,17 @@ use borrow.Author.Count.{below-more}
 use borrow.Author.Tests.{eq-eqb, ne-eqb}
 use Rattle.rules.specs.declared.Setting.{Setting}
 use Rattle.flags.specs.declared.Flag.{Flag}
+use Rattle.flags.specs.declared.Flag.the-variants.{Clear, Held, Unknown}
 use Rattle.fillings.specs.PossibleStates.{tabulate}
 use Rattle.fillings.proofs.Bools.{length-tabulate}
+use Rattle.rules.specs.Evaluation.{top, status}
+use Rattle.fillings.specs.Flags.{flag, notClear, isHeld}
+use Rattle.states.specs.Records.{statesOf, ruleWords}
 use Rattle.states.specs.Steps.{settingOf}
 use Rattle.states.specs.Readings as readings
 use Rattle.states.proofs.OneRule.{status-of-rule}
 use Rattle.states.proofs.RuleWords.{getD-tabulate}
+use Rattle.first_ticks.proofs.FirstLaws.{noted-same}
 use Rattle.first_ticks.specs.Firsts.{none, noted, statusIn, notedSeen, firstUnseen, notedUnseen}
 
 noted-none : (x f : ℕ) → f ≡ none → noted x f ≡ x
@@ -31,12 +36,30 @@ entry-known fs i x n = sym (ap (set fs i) (noted-known x (getD fs i 0) n) ∙ se
 pub entry-found : (fs : List ℕ) (i x r : ℕ) → getD fs i 0 ≡ none → r ≡ x → set fs i r ≡ set fs i (noted x (getD fs i 0))
 entry-found fs i x r e d = ap (set fs i) (d ∙ sym (noted-none x (getD fs i 0) e))
 
--- The entry of a rule after a seen tick, from its status in the record.
-pub entry-seen : (kind : Flag → Bool) (ws fs : List ℕ) (i tick r : ℕ) (s : Setting) (f : Flag) (b : Bool) → length ws ≡ 80 → i < 16
-    → f ≡ readings.statusIn s i ws → b ≡ kind f → r ≡ noted (cond b tick none) (getD fs i 0)
-    → set fs i r ≡ set fs i (noted (cond (kind (statusIn s i ws)) tick none) (getD fs i 0))
-entry-seen kind ws fs i tick r s f b long rule ef eb er =
-    ap (set fs i) (er ∙ ap (λ (x : Bool). noted (cond x tick none) (getD fs i 0)) (eb ∙ ap kind (ef ∙ status-of-rule ws i long rule s)))
+-- The entry of a rule, by whether its status counts.
+pub entry-noted : (fs : List ℕ) (i tick r : ℕ) {b c : Bool} → b ≡ c → r ≡ noted (cond b tick none) (getD fs i 0)
+    → set fs i r ≡ set fs i (noted (cond c tick none) (getD fs i 0))
+entry-noted fs i tick r e d = ap (set fs i) (d ∙ ap (λ (x : Bool). noted (cond x tick none) (getD fs i 0)) e)
+
+-- What is clear is not held.
+pub clear-not-held : (f : Flag) → notClear f ≡ false → isHeld f ≡ false
+clear-not-held Clear e = refl
+clear-not-held Held e = e
+clear-not-held Unknown e = refl
+
+-- The entry of a rule that is clear stays.
+pub entry-clear : (fs : List ℕ) (i tick : ℕ) {b : Bool} → b ≡ false → fs ≡ set fs i (noted (cond b tick none) (getD fs i 0))
+entry-clear fs i tick e =
+    sym (ap (λ (x : Bool). set fs i (noted (cond x tick none) (getD fs i 0))) e ∙ ap (set fs i) (noted-same (getD fs i 0)) ∙ set-getD fs i 0)
+
+-- The entry of a rule after a seen tick, from its status in a record that has the words of the end.
+pub entry-seen : (kind : Flag → Bool) (ws end fs out : List ℕ) (i tick : ℕ) (s : Setting) (f : Flag) → length ws ≡ 80 → i < 16
+    → f ≡ readings.statusIn s i ws → ruleWords ws i ≡ ruleWords end i → out ≡ set fs i (noted (cond (kind f) tick none) (getD fs i 0))
+    → out ≡ set fs i (noted (cond (kind (statusIn s i end)) tick none) (getD fs i 0))
+entry-seen kind ws end fs out i tick s f long rule ef ew eo =
+    eo
+    ∙ ap (λ (x : Flag). set fs i (noted (cond (kind x) tick none) (getD fs i 0)))
+    (ef ∙ status-of-rule ws i long rule s ∙ ap (λ (w : List ℕ). flag (top (s .time)) (status (top (s .time))) (statesOf w (top (s .time)))) ew)
 
 -- The entries below i are the new ones; the others are as they came.
 pub record Noting (found : ℕ → ℕ) (fs₀ fs : List ℕ) (i : ℕ) : Type 0 where

@@ -2,7 +2,8 @@ pub mod Searches
 pub mod Runs
 pub mod RunTicks
 pub mod UnseenRuns
-pub mod Entries
 pub mod FirstLaws
+pub mod Entries
+pub mod Watching
 pub mod HeldInHoles
 pub mod Tracking

@@ -42,3 +42,7 @@ notedUnseen ss first last ws fs = tabulate 16 (λ i. noted (firstUnseen first la
 -- Eighty words, and sixteen first ticks.
 abbrev pub sized : List ℕ → List ℕ → Bool
 sized ws fs = eqb (length ws) 80 && eqb (length fs) 16
+
+-- And sixteen of the other kind.
+abbrev pub allSized : List ℕ → List ℕ → List ℕ → Bool
+allSized ws fs gs = sized ws fs && eqb (length gs) 16

@@ -1,27 +1,31 @@
 // The first ticks of the report, kept for sixteen rules (paper 01, 'Three-way outputs').
 ghost use mathlib.Core.Path.{_≡_};
-ghost use mathlib.Core.Bool.{cond, _&&_};
-ghost use lib.Dec.{eqb};
-ghost use lib.ListN.{length};
+ghost use mathlib.Core.Bool.{cond};
 ghost use Rattle.fillings.specs.Flags.{notClear, isHeld};
-ghost use Rattle.first_ticks.specs.Firsts.{sized, notedSeen, notedUnseen};
+ghost use Rattle.first_ticks.specs.Firsts.{sized, allSized, notedSeen, notedUnseen};
+ghost use Rattle.states.specs.Steps.{afterSeen};
 
 mod rule;
 
-use rule::note_rule;
 use rule::note_run;
+use rule::note_status;
+use rules::Readings;
 use rules::Settings;
 
-// Notes a seen tick: `words` are the possible states after it. Lists of other lengths stay as they are.
-pub fn note_seen(
-    words: &[u64],
+// Moves the possible states of all rules by a seen tick, where the record stands, and notes the first ticks. A record or lists of
+// other lengths stay as they are.
+pub fn see(
+    words: &mut [u64],
     settings: Settings,
+    idle: u16,
     tick: u32,
+    readings: Readings,
     possible: &mut [u32],
     held: &mut [u32],
 )
-    ensures possible { λ _. ⌜ now (possible .exit) ≡ cond (sized (now (words .entry)) (now (possible .entry)) && eqb (length (now (held .entry))) 16) (notedSeen notClear (settings .of) tick (now (words .entry)) (now (possible .entry))) (now (possible .entry)) ⌝ }
-    ensures held { λ _. ⌜ now (held .exit) ≡ cond (sized (now (words .entry)) (now (possible .entry)) && eqb (length (now (held .entry))) 16) (notedSeen isHeld (settings .of) tick (now (words .entry)) (now (held .entry))) (now (held .entry)) ⌝ }
+    ensures words { λ _. ⌜ now (words .exit) ≡ cond (allSized (now (words .entry)) (now (possible .entry)) (now (held .entry))) (afterSeen (settings .of) idle tick readings (now (words .entry))) (now (words .entry)) ⌝ }
+    ensures possible { λ _. ⌜ now (possible .exit) ≡ cond (allSized (now (words .entry)) (now (possible .entry)) (now (held .entry))) (notedSeen notClear (settings .of) tick (afterSeen (settings .of) idle tick readings (now (words .entry))) (now (possible .entry))) (now (possible .entry)) ⌝ }
+    ensures held { λ _. ⌜ now (held .exit) ≡ cond (allSized (now (words .entry)) (now (possible .entry)) (now (held .entry))) (notedSeen isHeld (settings .of) tick (afterSeen (settings .of) idle tick readings (now (words .entry))) (now (held .entry))) (now (held .entry)) ⌝ }
 {
     if words.len() != 80 {
         return;
@@ -32,10 +36,13 @@ pub fn note_seen(
     if held.len() != 16 {
         return;
     }
+    let table = rules::all_rows();
     let mut i: usize = 0;
     while i < 16 {
         let setting = settings.of[i];
-        note_rule(words, i, setting, tick, possible, held);
+        let row = table.of[i];
+        let status = states::see_rule(words, i, row, setting, idle, tick, readings);
+        note_status(status, i, tick, possible, held);
         i += 1;
     }
 }

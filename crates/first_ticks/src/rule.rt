@@ -7,7 +7,7 @@ ghost use lib.ListN.{getD, length, set};
 ghost use Rattle.rules.specs.Table.{rowAt};
 ghost use Rattle.fillings.specs.Flags.{notClear, isHeld, firstFrom};
 ghost use Rattle.states.specs.Readings.{allowed};
-ghost use Rattle.first_ticks.specs.Firsts.{none, noted, statusIn, firstUnseen};
+ghost use Rattle.first_ticks.specs.Firsts.{none, noted, firstUnseen};
 use flags::Flag;
 use rules::Row;
 use rules::Setting;
@@ -46,29 +46,25 @@ fn note(found: bool, tick: u32, first: u32) -> u32
     first
 }
 
-// Notes a seen tick of rule i.
-pub(crate) fn note_rule(
-    words: &[u64],
+// Notes the status of rule i after a seen tick.
+pub(crate) fn note_status(
+    status: Flag,
     i: usize,
-    setting: Setting,
     tick: u32,
     possible: &mut [u32],
     held: &mut [u32],
 )
-    requires { ⌜ (length (now words) ≡ 80) × ((length (now possible) ≡ 16) × ((length (now held) ≡ 16) × (i < 16))) ⌝ }
-    ensures possible { λ _. ⌜ now (possible .exit) ≡ set (now (possible .entry)) i (noted (cond (notClear (statusIn setting i (now (words .entry)))) tick none) (getD (now (possible .entry)) i 0)) ⌝ }
-    ensures held { λ _. ⌜ now (held .exit) ≡ set (now (held .entry)) i (noted (cond (isHeld (statusIn setting i (now (words .entry)))) tick none) (getD (now (held .entry)) i 0)) ⌝ }
+    requires { ⌜ (length (now possible) ≡ 16) × ((length (now held) ≡ 16) × (i < 16)) ⌝ }
+    ensures possible { λ _. ⌜ now (possible .exit) ≡ set (now (possible .entry)) i (noted (cond (notClear status) tick none) (getD (now (possible .entry)) i 0)) ⌝ }
+    ensures held { λ _. ⌜ now (held .exit) ≡ set (now (held .entry)) i (noted (cond (isHeld status) tick none) (getD (now (held .entry)) i 0)) ⌝ }
 {
-    let p = possible[i];
-    let h = held[i];
-    if p != NONE {
-        if h != NONE {
-            return;
-        }
+    if not_clear(status) {
+        let p = possible[i];
+        let h = held[i];
+        possible[i] = note(true, tick, p);
+        held[i] = note(is_held(status), tick, h);
+        return;
     }
-    let status = states::status_in(words, i, setting);
-    possible[i] = note(not_clear(status), tick, p);
-    held[i] = note(is_held(status), tick, h);
 }
 
 fn smaller(n: u64, top: usize) -> usize

@@ -105,6 +105,17 @@ done-next i m new ws =
     alike x n =
         ⊎-elim (λ h. lt-ltb x i h ∙ sym (lt-ltb x (suc i) (omega arith))) (λ h. le-ltb x i h ∙ sym (le-ltb x (suc i) (⊎-elim (λ e. absurd (n (sym e))) (λ g. g) (eq-or-lt-of-le h)))) (below? x i)
 
+-- A rule that is done has the words that it will have.
+pub done-read : (k j : ℕ) (m : ℕ → Bool) (new : ℕ → List ℕ) (ws : List ℕ) → j < k → j < 16
+    → ruleWords (recordWith (done k m) new ws) j ≡ ruleWords (recordWith m new ws) j
+done-read k j m new ws h g =
+    ext-getD 0 _ _ (rule-length (done k m) new ws j g ∙ sym (rule-length m new ws j g))
+    (λ p l.
+    let l′ : p < 5 = omega (arith, rule-length (done k m) new ws j g) in
+    record-word (done k m) new ws j p g l′
+    ∙ ap (λ (b : Bool). cond (b && m j) (getD (new j) p 0) (getD (ruleWords ws j) p 0)) (lt-ltb j k h)
+    ∙ sym (record-word m new ws j p g l′))
+
 pub done-end : (m : ℕ → Bool) (new : ℕ → List ℕ) (ws : List ℕ) → recordWith (done 16 m) new ws ≡ recordWith m new ws
 done-end m new ws =
     record-same (done 16 m) m new new ws ws
@@ -164,6 +175,9 @@ module _ (m : ℕ → Bool) (new : ℕ → List ℕ) (ws₀ : List ℕ) where
         ∙ done-next i m new ws₀
         ∙ ap (λ (x : ℕ). recordWith (done x m) new ws₀) (sym (add-one i));
   }
+
+  pub moving-done : (ws : List ℕ) (i j : ℕ) → Moving m new ws₀ ws i → j < i → j < 16 → ruleWords ws j ≡ ruleWords (recordWith m new ws₀) j
+  moving-done ws i j g h l = ap (λ (x : List ℕ). ruleWords x j) (g .holds) ∙ done-read i j m new ws₀ h l
 
   pub moving-end : (ws : List ℕ) (i : ℕ) → Moving m new ws₀ ws i → 16 ≤ i → ws ≡ recordWith m new ws₀
   moving-end ws i g h =

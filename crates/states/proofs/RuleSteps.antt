@@ -16,8 +16,8 @@ use Rattle.rules.specs.Evaluation.{trips, clears, top, evaluated}
 use Rattle.fillings.specs.PossibleStates.{found, next, unseenTimes}
 use Rattle.fillings.specs.Demand3.{evaluations}
 use Rattle.states.specs.Records.{statesOf, wordsOf, ruleWords, recordWith}
-use Rattle.states.proofs.EachRule.{rule-moves, Moving, moving-read, moving-next, moving-end}
-use Rattle.states.specs.Steps.{settingOf, movesBy, movesAt, seenBy, seenWords, afterSeen, evaluationsOf, movesBetween, unseenWords, afterUnseen}
+use Rattle.states.proofs.EachRule.{rule-moves, Moving, moving-read, moving-next, moving-done, moving-end}
+use Rattle.states.specs.Steps.{settingOf, movesBy, movesAt, seenBy, seenWords, afterSeenRule, afterSeen, evaluationsOf, movesBetween, unseenWords, afterUnseen}
 
 pub positive : (t : ℕ) → (t ≡ 0 → ⊥) → 0 < t
 positive zero n = absurd (n refl)
@@ -74,6 +74,12 @@ pub unseen-read : (first last : ℕ) (s : Setting) (i : ℕ) (ws vs : List ℕ) 
 unseen-read first last s i ws vs e =
     ap (λ (x : List ℕ). wordsOf (unseenTimes (evaluationsOf first last i) (top (s .time)) (rowAt i .recovers) (statesOf x (top (s .time))))) e
 
+-- One rule of a record.
+pub rule-seen : (idle tick i : ℕ) (r : Readings) (s : Setting) (ws out : List ℕ) (row : Row) → length ws ≡ 80 → i < 16 → out ≡ afterSeenRule row s idle tick r i ws
+    → out ≡ recordWith (λ j. eqb j i && movesBy row tick s) (λ j. seenBy row idle r s i ws) ws
+unfolding afterSeenRule
+rule-seen idle tick i r s ws out row l h e = rw (eq-eqb (length ws) 80 l, lt-ltb i 16 h) at e
+
 -- The loop over the rules at a seen tick.
 module _ (ss : List Setting) (idle tick : ℕ) (r : Readings) (ws₀ : List ℕ) where
   abbrev pub Seeing : List ℕ → ℕ → Type 0
@@ -95,6 +101,12 @@ module _ (ss : List Setting) (idle tick : ℕ) (r : Readings) (ws₀ : List ℕ)
   pub seeing-end : (ws : List ℕ) (i : ℕ) → Seeing ws i → 16 ≤ i → ws ≡ afterSeen ss idle tick r ws₀
   seeing-end ws i g h =
       seen-done ws (g .long) (moving-end (λ j. movesAt tick (settingOf ss j) j) (λ j. seenWords idle r (settingOf ss j) j ws₀) ws₀ ws i g h)
+
+  -- a rule that has moved has the words of the end
+  pub seeing-done : (ws : List ℕ) (i j : ℕ) → Seeing ws i → j < i → j < 16 → ruleWords ws j ≡ ruleWords (afterSeen ss idle tick r ws₀) j
+  seeing-done ws i j g h l =
+      moving-done (λ k. movesAt tick (settingOf ss k) k) (λ k. seenWords idle r (settingOf ss k) k ws₀) ws₀ ws i j g h l
+      ∙ ap (λ (x : List ℕ). ruleWords x j) (seen-done _ (g .long) refl)
 
   pub seen-kept : (length ws₀ ≡ 80 → ⊥) → ws₀ ≡ afterSeen ss idle tick r ws₀
   unfolding afterSeen
