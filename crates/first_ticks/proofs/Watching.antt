@@ -38,7 +38,7 @@ module _ (ss : List Setting) (idle tick : ℕ) (r : Readings) (ws₀ ps₀ hs₀
       → Watching ss idle tick r ws₀ ps₀ hs₀ ws′ ps′ hs′ (i + 1)
   watching-next ws ps hs ws′ ps′ hs′ i row f er w h ew ef ep eh =
       let s : Seeing ss idle tick r ws₀ ws′ (i + 1) =
-          seeing-next ss idle tick r ws₀ ws ws′ i row er (w .states) h (rule-seen idle tick i r (settingOf ss i) ws ws′ row (watching-length ws ps hs i w) h ew) in
+      seeing-next ss idle tick r ws₀ ws ws′ i row er (w .states) h (rule-seen idle tick i r (settingOf ss i) ws ws′ row (watching-length ws ps hs i w) h ew) in
       let long = moving-length _ _ ws₀ ws′ (i + 1) s in
       let same = seeing-done ss idle tick r ws₀ ws′ (i + 1) i s (omega arith) h in
       record {

@@ -47,13 +47,7 @@ fn note(found: bool, tick: u32, first: u32) -> u32
 }
 
 // Notes the status of rule i after a seen tick.
-pub(crate) fn note_status(
-    status: Flag,
-    i: usize,
-    tick: u32,
-    possible: &mut [u32],
-    held: &mut [u32],
-)
+pub(crate) fn note_status(status: Flag, i: usize, tick: u32, possible: &mut [u32], held: &mut [u32])
     requires { ⌜ (length (now possible) ≡ 16) × ((length (now held) ≡ 16) × (i < 16)) ⌝ }
     ensures possible { λ _. ⌜ now (possible .exit) ≡ set (now (possible .entry)) i (noted (cond (notClear status) tick none) (getD (now (possible .entry)) i 0)) ⌝ }
     ensures held { λ _. ⌜ now (held .exit) ≡ set (now (held .entry)) i (noted (cond (isHeld status) tick none) (getD (now (held .entry)) i 0)) ⌝ }

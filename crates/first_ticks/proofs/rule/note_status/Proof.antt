@@ -50,9 +50,10 @@ same-length-2 c = search needs
 
 returns : tie.Need-returns
 returns c =
-    let a = c .before .before .before .before .before .before .before .before .before .args in
-    (entry-noted (a .possible .now) (a .i) (a .tick) _ (sym (c .before .before .before .before .before .if1 .taken) ∙ c .before .before .before .before .before .before .not-clear .ensures) (c .before .before .note .ensures),
-    entry-noted (a .held .now) (a .i) (a .tick) _ (c .before .is-held .ensures) (c .note2 .ensures))
+    let a = c .before .before .before .before .before .before .before .before .before .args in (
+      entry-noted (a .possible .now) (a .i) (a .tick) _ (sym (c .before .before .before .before .before .if1 .taken) ∙ c .before .before .before .before .before .before .not-clear .ensures) (c .before .before .note .ensures),
+      entry-noted (a .held .now) (a .i) (a .tick) _ (c .before .is-held .ensures) (c .note2 .ensures),
+    )
 
 returns-2 : tie.Need-returns-2
 returns-2 c =
