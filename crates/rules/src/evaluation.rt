@@ -6,7 +6,6 @@ ghost use lib.IntN.{pos, negℤ};
 ghost use lib.Signed.{ltZ};
 ghost use Rattle.rules.specs.Quantities.{value, qualified};
 ghost use Rattle.rules.specs.Evaluation.{beyond, opposite, trips, clears, top, evaluated};
-use crate::Found;
 use crate::Quantity;
 use crate::Readings;
 use crate::Row;
@@ -92,20 +91,27 @@ pub fn and(a: bool, b: bool) -> bool
     if a { b } else { false }
 }
 
-// What an evaluation of a rule finds at a sample.
-pub fn evaluate(row: Row, idle: u16, setting: Setting, r: Readings) -> Found
-    ensures { λ f. ⌜ f ≡ record { trips = trips idle row setting r; clears = clears row setting r } ⌝ }
+// Whether an evaluation of a rule meets its threshold.
+pub fn meets_threshold(row: Row, idle: u16, setting: Setting, r: Readings) -> bool
+    ensures { λ b. ⌜ b ≡ trips idle row setting r ⌝ }
 {
     let quantity = row.quantity;
     let side = row.side;
     let v = value_of(quantity, r);
-    let met = is_beyond(side, v, setting.threshold as i64);
-    let back = is_before(side, v, setting.recovery as i64);
     let counts = qualifies(idle, quantity, r);
-    Found {
-        trips: and(counts, met),
-        clears: and(row.recovers, back),
-    }
+    let met = is_beyond(side, v, setting.threshold as i64);
+    and(counts, met)
+}
+
+// Whether an evaluation of a rule meets its recovery.
+pub fn meets_recovery(row: Row, setting: Setting, r: Readings) -> bool
+    ensures { λ b. ⌜ b ≡ clears row setting r ⌝ }
+{
+    let quantity = row.quantity;
+    let side = row.side;
+    let v = value_of(quantity, r);
+    let back = is_before(side, v, setting.recovery as i64);
+    and(row.recovers, back)
 }
 
 // Whether a rule is evaluated at a tick.

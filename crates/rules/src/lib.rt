@@ -6,8 +6,9 @@ ghost use Rattle.rules.specs.Table.{rows, rowAt};
 mod evaluation;
 
 pub use evaluation::and;
-pub use evaluation::evaluate;
 pub use evaluation::evaluated_at;
+pub use evaluation::meets_recovery;
+pub use evaluation::meets_threshold;
 pub use evaluation::top_of;
 
 // What a rule looks at. A quantity 'charging' or 'discharging' counts towards the threshold only while the pack does so.
@@ -264,10 +265,4 @@ pub struct Readings {
     pub sum_of_cells: u32,
     pub highest_temp: i16,
     pub lowest_temp: i16,
-}
-
-// Whether an evaluation meets the threshold, and whether it meets the recovery.
-pub struct Found {
-    pub trips: bool,
-    pub clears: bool,
 }

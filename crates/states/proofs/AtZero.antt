@@ -11,7 +11,7 @@ use lib.Seq.{ext-getD}
 use borrow.Author.Tests.{eq-eqb, ne-eqb}
 use Rattle.rules.specs.Evaluation.{status}
 use Rattle.flags.specs.declared.Flag.the-variants.{Clear}
-use Rattle.fillings.specs.PossibleStates.{tabulate, has, Moves, next, start}
+use Rattle.fillings.specs.PossibleStates.{tabulate, has, Moves, found, next, start}
 use Rattle.fillings.specs.Flags.{flag}
 use Rattle.fillings.proofs.Bools.{bool-ext, refuted, has-tabulate, length-tabulate}
 use Rattle.fillings.proofs.Next.{next-length, reached, by-restart}
@@ -87,30 +87,21 @@ same-rule ws v i l e =
     (λ n. ap (λ (b : Bool). cond b (getD v (k % 5) 0) (getD ws k 0)) (ne-eqb (k / 5) i n))
     (equal? (k / 5) i))
 
-is-not-up : (restart up alone : Bool) → (restart && not up && alone) ≡ true → up ≡ false
-is-not-up true false alone e = refl
-is-not-up true true alone e = sym e
-is-not-up false up alone e = absurd (let z : _≡_ {A = ℕ} 0 1 = cc in omega arith)
-
-is-restart : (restart up alone : Bool) → (restart && not up && alone) ≡ true → restart ≡ true
-is-restart true up alone e = refl
-is-restart false up alone e = e
-
-is-alone : (restart up alone : Bool) → (restart && not up && alone) ≡ true → alone ≡ true
-is-alone true false alone e = e
-is-alone true true alone e = absurd (let z : _≡_ {A = ℕ} 0 1 = cc in omega arith)
-is-alone false up alone e = absurd (let z : _≡_ {A = ℕ} 0 1 = cc in omega arith)
-
--- A rule at 0 alone that can only restart leaves the record as it is.
-pub zero-stays : (ws w : List ℕ) (i m : ℕ) (mv : Moves) (alone : Bool) → length ws ≡ 80 → 0 < m → m ≤ 256
-    → (mv .restart && not (mv .up) && alone) ≡ true → (alone ≡ true → w ≡ wordsOf (start 0)) → w ≡ ruleWords ws i
-    → ws ≡ recordWith (λ j. eqb j i) (λ j. wordsOf (next m mv (statesOf (ruleWords ws i) m))) ws
-zero-stays ws w i m mv alone l pos fits e z r =
-    sym (same-rule ws (wordsOf (next m mv (statesOf (ruleWords ws i) m))) i l
-    (zero-kept (ruleWords ws i) m mv (sym r ∙ z (is-alone (mv .restart) (mv .up) alone e)) pos fits (is-not-up (mv .restart) (mv .up) alone e) (is-restart (mv .restart) (mv .up) alone e)))
+-- A rule at 0 alone that does not trip leaves the record as it is.
+pub zero-stays : (ws w : List ℕ) (i m : ℕ) (trip clear alone : Bool) → length ws ≡ 80 → 0 < m → m ≤ 256
+    → (not trip && alone) ≡ true → (alone ≡ true → w ≡ wordsOf (start 0)) → w ≡ ruleWords ws i
+    → ws ≡ recordWith (λ j. eqb j i) (λ j. wordsOf (next m (found trip clear) (statesOf (ruleWords ws i) m))) ws
+zero-stays ws w i m true clear alone l pos fits e z r = absurd (let n : _≡_ {A = ℕ} 0 1 = cc in omega arith)
+zero-stays ws w i m false clear alone l pos fits e z r =
+    sym (same-rule ws (wordsOf (next m (found false clear) (statesOf (ruleWords ws i) m))) i l (zero-kept (ruleWords ws i) m (found false clear) (sym r ∙ z e) pos fits refl refl))
 
 -- Its status is clear.
-pub zero-clear : (w : List ℕ) (m : ℕ) (mv : Moves) (alone : Bool) → 0 < m → m ≤ 256 → (mv .restart && not (mv .up) && alone) ≡ true → (alone ≡ true → w ≡ wordsOf (start 0))
-    → Clear ≡ flag m (status m) (statesOf w m)
-zero-clear w m mv alone pos fits e z =
-    status-clear w m fits pos (ap (λ (v : List ℕ). at v m) (z (is-alone (mv .restart) (mv .up) alone e)) ∙ at-wordsOf (start 0) m (omega arith) ∙ sym (has-start m m) ∙ refuted (has (start m) m) (λ t. let n : m ≡ 0 = start-zero m m t in omega arith))
+pub zero-clear : (ws w : List ℕ) (i m : ℕ) (trip alone : Bool) → 0 < m → m ≤ 256 → (not trip && alone) ≡ true → (alone ≡ true → w ≡ wordsOf (start 0)) → w ≡ ruleWords ws i
+    → Clear ≡ flag m (status m) (statesOf (ruleWords ws i) m)
+zero-clear ws w i m true alone pos fits e z r = absurd (let n : _≡_ {A = ℕ} 0 1 = cc in omega arith)
+zero-clear ws w i m false alone pos fits e z r =
+    status-clear (ruleWords ws i) m fits pos
+    (ap (λ (v : List ℕ). at v m) (sym r ∙ z e)
+    ∙ at-wordsOf (start 0) m (omega arith)
+    ∙ sym (has-start m m)
+    ∙ refuted (has (start m) m) (λ t. let n : m ≡ 0 = start-zero m m t in omega arith))

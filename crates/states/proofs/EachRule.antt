@@ -121,14 +121,7 @@ done-end m new ws =
     record-same (done 16 m) m new new ws ws
     (λ k l. ap (λ (b : Bool). cond (b && m (k / 5)) (getD (new (k / 5)) (k % 5) 0) (getD ws k 0)) (lt-ltb (k / 5) 16 (omega arith)))
 
--- One rule loaded, moved and stored.
-pub moved-stored : (ws out w v : List ℕ) (i m : ℕ) (mv : Moves) → out ≡ recordWith (λ j. eqb j i) (λ j. v) ws
-    → v ≡ wordsOf (next m mv (statesOf w m)) → w ≡ ruleWords ws i
-    → out ≡ recordWith (λ j. eqb j i) (λ j. wordsOf (next m mv (statesOf (ruleWords ws i) m))) ws
-moved-stored ws out w v i m mv o e l =
-    o ∙ ap (λ (x : List ℕ). recordWith (λ j. eqb j i) (λ j. x) ws) (e ∙ ap (λ (x : List ℕ). wordsOf (next m mv (statesOf x m))) l)
-
--- Its flag is that of the words that were stored.
+-- The flag of a rule whose words were stored.
 pub stored-flag : (ws out v : List ℕ) (i m : ℕ) (f : Flag) → i < 16 → length v ≡ 5 → out ≡ recordWith (λ j. eqb j i) (λ j. v) ws
     → f ≡ flag m (status m) (statesOf v m) → f ≡ flag m (status m) (statesOf (ruleWords out i) m)
 stored-flag ws out v i m f h l o e =

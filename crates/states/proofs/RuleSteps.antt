@@ -10,7 +10,6 @@ use borrow.Author.Tests.{lt-ltb, le-ltb, eq-eqb, ne-eqb}
 use Rattle.rules.specs.declared.Row.{Row}
 use Rattle.rules.specs.declared.Setting.{Setting}
 use Rattle.rules.specs.declared.Readings.{Readings}
-use Rattle.rules.specs.declared.Found.{Found}
 use Rattle.rules.specs.Table.{rowAt}
 use Rattle.rules.specs.Evaluation.{trips, clears, top, evaluated}
 use Rattle.fillings.specs.PossibleStates.{found, next, unseenTimes}
@@ -33,20 +32,19 @@ idle-stays t b e = ap (λ (x : Bool). ltb 0 t && x) e ∙ and-false (ltb 0 t)
 pub on-moves : (t : ℕ) (b : Bool) → (t ≡ 0 → ⊥) → b ≡ true → (ltb 0 t && b) ≡ true
 on-moves t b n e = ap₂ _&&_ (lt-ltb 0 t (positive t n)) e
 
-pub seen-words : (idle : ℕ) (r : Readings) (s : Setting) (i : ℕ) (ws : List ℕ) (row : Row) (f : Found) (m : ℕ)
-    → f ≡ record { trips = trips idle row s r; clears = clears row s r } → m ≡ top (s .time)
-    → wordsOf (next m (found (f .trips) (f .clears)) (statesOf (ruleWords ws i) m)) ≡ seenBy row idle r s i ws
-seen-words idle r s i ws row f m ef em =
-    ap (λ (x : ℕ). wordsOf (next x (found (f .trips) (f .clears)) (statesOf (ruleWords ws i) x))) em
-    ∙ ap (λ (x : Found). wordsOf (next (top (s .time)) (found (x .trips) (x .clears)) (statesOf (ruleWords ws i) (top (s .time))))) ef
+-- The words of a rule that was loaded, evaluated and stored.
+pub seen-words : (idle : ℕ) (r : Readings) (s : Setting) (i : ℕ) (ws w v : List ℕ) (row : Row) (m : ℕ) {trip clear : Bool} → trip ≡ trips idle row s r
+    → clear ≡ clears row s r → m ≡ top (s .time) → w ≡ ruleWords ws i → v ≡ wordsOf (next m (found trip clear) (statesOf w m)) → v ≡ seenBy row idle r s i ws
+seen-words idle r s i ws w v row m {trip} {clear} et ec em ew e =
+    e
+    ∙ ap₂ (λ (x : ℕ) (y : List ℕ). wordsOf (next x (found trip clear) (statesOf y x))) em ew
+    ∙ ap₂ (λ (x y : Bool). wordsOf (next (top (s .time)) (found x y) (statesOf (ruleWords ws i) (top (s .time))))) et ec
 
-pub seen-moves : (idle tick i m : ℕ) (r : Readings) (s : Setting) (ws out : List ℕ) (row : Row) (f : Found) (b : Bool) → (s .time ≡ 0 → ⊥)
-    → b ≡ evaluated row tick → b ≡ true → f ≡ record { trips = trips idle row s r; clears = clears row s r } → m ≡ top (s .time)
-    → out ≡ recordWith (λ j. eqb j i) (λ j. wordsOf (next m (found (f .trips) (f .clears)) (statesOf (ruleWords ws i) m))) ws
+pub seen-moves : (idle tick i : ℕ) (r : Readings) (s : Setting) (ws out : List ℕ) (row : Row) (b : Bool) → (s .time ≡ 0 → ⊥) → b ≡ evaluated row tick → b ≡ true
+    → out ≡ recordWith (λ j. eqb j i) (λ j. seenBy row idle r s i ws) ws
     → out ≡ recordWith (λ j. eqb j i && movesBy row tick s) (λ j. seenBy row idle r s i ws) ws
-seen-moves idle tick i m r s ws out row f b n eb e ef em o =
-    rule-moves (movesBy row tick s) (wordsOf (next m (found (f .trips) (f .clears)) (statesOf (ruleWords ws i) m))) (seenBy row idle r s i ws) ws out i
-    (on-moves (s .time) (evaluated row tick) n (sym eb ∙ e)) o (seen-words idle r s i ws row f m ef em)
+seen-moves idle tick i r s ws out row b n eb e o =
+    rule-moves (movesBy row tick s) (seenBy row idle r s i ws) (seenBy row idle r s i ws) ws out i (on-moves (s .time) (evaluated row tick) n (sym eb ∙ e)) o refl
 
 pub seen-read : (idle : ℕ) (r : Readings) (s : Setting) (i : ℕ) (ws vs : List ℕ) → ruleWords ws i ≡ ruleWords vs i → seenWords idle r s i ws ≡ seenWords idle r s i vs
 seen-read idle r s i ws vs e =

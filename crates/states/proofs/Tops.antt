@@ -18,6 +18,9 @@ pub top-pos : (t : ℕ) → (t ≡ 0 → ⊥) → 0 < top t
 top-pos zero n = absurd (n refl)
 top-pos (suc t) n = omega arith
 
+pub positive-top : {m t : ℕ} → m ≡ top t → 0 < t → 0 < m
+positive-top {m} {t} e h = let p = top-pos t (λ z. omega arith) in omega arith
+
 pub evaluations-none : (row : Row) (first last : ℕ) → last < first → 0 ≡ evaluations row first (suc last)
 unfolding evaluations
 evaluations-none row first last h =

@@ -3,7 +3,7 @@ ghost use mathlib.Core.Path.{_≡_};
 ghost use mathlib.Core.Bool.{true};
 ghost use Prim.Native.Nat.{_<_, _≤_, min};
 ghost use lib.ListN.{getD};
-ghost use Rattle.fillings.specs.PossibleStates.{someBelow, next, start, unseenTimes};
+ghost use Rattle.fillings.specs.PossibleStates.{someBelow, found, next, start, unseenTimes};
 ghost use Rattle.rules.specs.Evaluation.{top, alert, status};
 ghost use Rattle.fillings.specs.Flags.{flag};
 ghost use Rattle.states.specs.Records.{at, statesOf, wordsOf};
@@ -132,6 +132,22 @@ pub(crate) fn moved(
     let kept = with_state(counted, top, stay & held);
     let zero = restart & some(low) | leave & held;
     with_state(kept, 0, zero)
+}
+
+// The states after a seen evaluation.
+pub(crate) fn seen_moved(w: [u64; 5], top: usize, trips: bool, clears: bool) -> [u64; 5]
+    requires { ⌜ (0 < top) × (top ≤ 256) ⌝ }
+    ensures { λ r. ⌜ r ≡ wordsOf (next top (found trips clears) (statesOf w top)) ⌝ }
+{
+    let held = test(w, top);
+    let low = below(w, top);
+    if trips {
+        let up = up_one(low);
+        let kept = with_state(up, top, !clears & held);
+        return with_state(kept, 0, clears & held);
+    }
+    let kept = with_state([0; 5], top, !clears & held);
+    with_state(kept, 0, some(low) | clears & held)
 }
 
 // The words q words up, with full words below.
