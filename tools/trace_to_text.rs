@@ -1,5 +1,5 @@
 // A trace as text. Bytes whose sections are whole get a line for each record, the others lines of bytes.
-use crate::names::{reply_text, RuleName, RULES};
+use crate::names::{reply_text, RULES};
 use crate::trace_bytes::{Sample, Trace};
 use crate::trace_layout::{hole_of, idle_of, reply_of, rule_of, sample_of, sections, whole, Section, NAMES};
 use std::fmt::Display;
@@ -70,8 +70,7 @@ fn head_lines(trace: &Trace) -> Vec<String> {
     lines.push(format!("idle {} mA", trace.idle));
     let set = trace.rules.iter().enumerate().filter(|r| *r.1 != (0, 0, 0));
     lines.extend(set.map(|(rule, &setting)| {
-        let RuleName { long, unit, .. } = RULES[rule];
-        format!("{}  # rule {rule}, {long}, in {unit}", rule_line(rule, setting))
+        format!("{}  # rule {rule}: {}, in {}", rule_line(rule, setting), RULES[rule].title(), RULES[rule].unit)
     }));
     lines
 }
