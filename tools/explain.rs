@@ -12,15 +12,16 @@ mod trace_bytes;
 #[path = "trace_layout.rs"]
 mod trace_layout;
 
+use std::io::Write;
 use std::process::exit;
 
-fn stop(message: String) -> ! {
+fn stop(status: i32, message: String) -> ! {
     eprintln!("explain: {message}");
-    exit(2)
+    exit(status)
 }
 
 fn read(name: &str) -> Vec<u8> {
-    std::fs::read(name).unwrap_or_else(|why| stop(format!("{name}: {why}")))
+    std::fs::read(name).unwrap_or_else(|why| stop(2, format!("{name}: {why}")))
 }
 
 // The number and the place of 'refused N at P'.
@@ -41,11 +42,11 @@ fn explained(trace: &[u8], answer: &str) -> Option<String> {
 fn main() {
     let arguments: Vec<String> = std::env::args().skip(1).collect();
     if arguments.len() != 2 {
-        stop("usage: explain TRACE ANSWER".to_string());
+        stop(2, "usage: explain TRACE ANSWER".to_string());
     }
     let (trace, answer) = (read(&arguments[0]), read(&arguments[1]));
     match explained(&trace, &String::from_utf8_lossy(&answer)) {
-        Some(text) => print!("{text}"),
-        None => stop("the judge wrote something that is no answer to this trace".to_string()),
+        Some(text) => std::io::stdout().write_all(text.as_bytes()).unwrap_or_else(|why| stop(1, why.to_string())),
+        None => stop(1, "the judge wrote something that is no answer to this trace".to_string()),
     }
 }

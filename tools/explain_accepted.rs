@@ -36,6 +36,12 @@ pub fn tick_text(tick: u32) -> String {
     format!("tick {tick} ({})", clock(tick as u64))
 }
 
+// The short name and the manual's.
+pub fn title(rule: usize) -> String {
+    let name = &RULES[rule];
+    if name.short == name.long { name.short.to_string() } else { format!("{} ({})", name.short, name.long) }
+}
+
 fn first_ticks(possible: u32, certain: u32) -> String {
     match (possible, certain) {
         (NEVER, _) => "status clear at every tick".to_string(),
@@ -55,7 +61,7 @@ fn level(value: i32, unit: &str) -> String {
 // The numbers of a rule. Rules 10 to 15 latch; the temperature rules are evaluated at even ticks.
 fn setting_text(rule: usize, (threshold, recovery, time): (i32, i32, u16)) -> String {
     let unit = RULES[rule].unit;
-    let recovery = if rule < 10 { format!("recovery {}", level(recovery, unit)) } else { "latched".to_string() };
+    let recovery = if rule < 10 { format!("recovery {}", level(recovery, unit)) } else { "latches".to_string() };
     let evaluated = if unit == "0.1 °C" { ", evaluated at even ticks" } else { "" };
     format!("rule {rule}: threshold {}, {recovery}, time {time}{evaluated}", level(threshold, unit))
 }
@@ -65,7 +71,7 @@ fn rule_text(rule: usize, setting: (i32, i32, u16), report: &[u8]) -> String {
     let (possible, certain) = (number(row, 2, 4) as u32, number(row, 6, 4) as u32);
     format!(
         "  {}: alert {}, status {}\n    {}\n    {}\n",
-        RULES[rule].title(),
+        title(rule),
         flag(row[0]),
         flag(row[1]),
         first_ticks(possible, certain),

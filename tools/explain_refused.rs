@@ -1,5 +1,5 @@
 // A refusal in words, and where in the file to look (paper 01, 'Refusal numbers').
-use crate::explain_accepted::tick_text;
+use crate::explain_accepted::{tick_text, title};
 use crate::names::RULES;
 use crate::trace_layout::{hole_of, idle_of, reply_of, rule_of, sample_of, sections, whole, Section, NAMES};
 
@@ -27,11 +27,13 @@ fn past_the_end(sections: &[Section], length: usize) -> String {
     let next = sections.last().map_or(4, |s| s.end());
     match sections.last() {
         Some(s) if s.end() > length => format!(
-            "The count of the {} at byte {} says {}; the section would end before byte {}, but the file has {length} bytes.",
+            "The count of the {} at byte {} says {}: {} bytes from byte {} on, but only {} are left.",
             NAMES[sections.len() - 1],
             s.count_at,
             s.count,
-            s.end(),
+            s.end() - s.place(0),
+            s.place(0),
+            length - s.place(0),
         ),
         _ => format!("The count of the {} should be at byte {next}, but the file has {length} bytes.", NAMES[sections.len() % 4]),
     }
@@ -55,12 +57,11 @@ fn limits_text(rule: usize, cells: u8) -> String {
 
 fn rule_place(rules: &Section, trace: &[u8], rule: usize) -> Option<String> {
     let (threshold, recovery, time) = rule_of(rules.records(trace).nth(rule)?);
-    let name = RULES.get(rule)?;
     Some(format!(
         "{} is rule {rule} at byte {}: threshold {threshold}, recovery {recovery}, time {time}, in {}.\n{}",
-        name.title(),
+        title(rule),
         rules.place(rule),
-        name.unit,
+        RULES[rule].unit,
         limits_text(rule, trace[1]),
     ))
 }
@@ -129,7 +130,7 @@ fn place_text(sections: &[Section], trace: &[u8], number: u8, place: u32) -> Opt
         }
         11 => {
             let end = sections[3].end();
-            format!("The samples end before byte {end}; the file has {} bytes, {} too many.", trace.len(), trace.len() - end)
+            format!("The last section ends with byte {}; {} bytes follow it.", end - 1, trace.len() - end)
         }
         _ => return None,
     })

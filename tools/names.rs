@@ -11,12 +11,6 @@ const fn rule(short: &'static str, long: &'static str, unit: &'static str) -> Ru
     RuleName { short, long, unit }
 }
 
-impl RuleName {
-    pub fn title(&self) -> String {
-        if self.short == self.long { self.short.to_string() } else { format!("{} ({})", self.short, self.long) }
-    }
-}
-
 pub const RULES: [RuleName; 16] = [
     rule("COV", "Cell Overvoltage", "mV"),
     rule("CUV", "Cell Undervoltage", "mV"),

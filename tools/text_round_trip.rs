@@ -1,4 +1,5 @@
-// `text_round_trip SEED COUNT`: random traces, spoiled ones and other byte strings to text and back.
+// `text_round_trip SEED COUNT DIR`: random traces, spoiled ones and other byte strings to text and back. The first 200 are also
+// written to the directory.
 #[path = "names.rs"]
 mod names;
 #[path = "random_trace.rs"]
@@ -72,16 +73,20 @@ fn comes_back(bytes: &[u8]) -> bool {
 }
 
 fn main() {
-    let numbers: Vec<u64> = std::env::args().skip(1).map(|a| a.parse().expect("a number")).collect();
-    let mut x = Random(numbers[0]);
+    let arguments: Vec<String> = std::env::args().skip(1).collect();
+    let number = |k: usize| arguments[k].parse::<u64>().expect("a number");
+    let (mut x, count) = (Random(number(0)), number(1));
     let mut records = 0;
-    for case in 0..numbers[1] {
+    for case in 0..count {
         let bytes = random_case(&mut x);
         if !comes_back(&bytes) {
-            println!("case {case} of seed {} does not come back; its text:\n{}", numbers[0], disassemble(&bytes));
+            println!("case {case} does not come back; its text:\n{}", disassemble(&bytes));
             std::process::exit(1);
         }
         records += whole(&sections(&bytes), &bytes) as u64;
+        if case < 200 {
+            std::fs::write(format!("{}/{case}.trace", arguments[2]), &bytes).expect("a file");
+        }
     }
-    println!("{} byte strings came back, {records} of them as records", numbers[1]);
+    println!("{count} byte strings came back, {records} of them as records");
 }

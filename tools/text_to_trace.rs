@@ -161,11 +161,14 @@ fn moved(span: Span, step: i64, steps: i64) -> i64 {
     span.0 + (span.1 - span.0) * step / steps.max(1)
 }
 
-// A reading for each cell; one for all of them may stand alone.
+// A reading for each cell. `9x3500` stands for nine cells, and one reading alone for all cells.
 fn cell_spans(words: &mut Words, what: &str, end: &str, range: RangeInclusive<i64>, cells: usize) -> Result<Vec<Span>, Fault> {
     let mut spans = Vec::new();
     for word in words.before(end) {
-        spans.push(words.parse_span(what, word, range.clone())?);
+        let (count, reading) = word.split_once('x').unwrap_or(("1", word));
+        let count = words.parse("number of cells", count, BYTE)? as usize;
+        let span = words.parse_span(what, reading, range.clone())?;
+        spans.extend(vec![span; count]);
     }
     match spans.len() {
         1 => Ok(vec![spans[0]; cells]),

@@ -70,7 +70,7 @@ fn head_lines(trace: &Trace) -> Vec<String> {
     lines.push(format!("idle {} mA", trace.idle));
     let set = trace.rules.iter().enumerate().filter(|r| *r.1 != (0, 0, 0));
     lines.extend(set.map(|(rule, &setting)| {
-        format!("{}  # rule {rule}: {}, in {}", rule_line(rule, setting), RULES[rule].title(), RULES[rule].unit)
+        format!("{}  # rule {rule}, {}, in {}", rule_line(rule, setting), RULES[rule].long, RULES[rule].unit)
     }));
     lines
 }
