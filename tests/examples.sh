@@ -90,6 +90,7 @@ explain_as() { # SED: of the first example, its answer changed
     PROGRAM=$out/other ./explain examples/hidden_over_voltage.trace
 }
 check "other flags" says 0 "COV (Cell Overvoltage): alert held, status clear" explain_as 's/^0202/0100/'
+check "a rule that is off" says 0 "POV (Pack Overvoltage): alert held, status unknown" explain_as 's/^\\(0202.\\{36\\}\\)0000/\\10102/'
 check "other first tick" says 0 "first possible at tick 13 (0:00:13), first certain at tick 4112 (1:08:32)" \
     explain_as 's/^02020c000000ffffffff/02020d00000010100000/'
 check "other verdict" says 0 "Voltage 12509 mV: differs from the sum of the sample's cells, 4159 + 4161 + 4189 mV" explain_as 's/^44/54/'

@@ -43,11 +43,14 @@ pub fn title(rule: usize) -> String {
 }
 
 fn first_ticks(possible: u32, certain: u32) -> String {
-    match (possible, certain) {
-        (NEVER, _) => "status clear at every tick".to_string(),
-        (_, NEVER) => format!("status first possible at {}, certain at no tick", tick_text(possible)),
-        _ => format!("status first possible at {}, first certain at {}", tick_text(possible), tick_text(certain)),
+    if (possible, certain) == (NEVER, NEVER) {
+        return "status clear at every tick".to_string();
     }
+    let first = |word, tick| match tick {
+        NEVER => format!("{word} at no tick"),
+        _ => format!("first {word} at {}", tick_text(tick)),
+    };
+    format!("status {}, {}", first("possible", possible), first("certain", certain))
 }
 
 fn level(value: i32, unit: &str) -> String {
@@ -79,9 +82,13 @@ fn rule_text(rule: usize, setting: (i32, i32, u16), report: &[u8]) -> String {
     )
 }
 
+// A row of the report that says clear throughout.
+const CLEAR_ROW: [u8; 10] = [0, 0, 255, 255, 255, 255, 255, 255, 255, 255];
+
 fn rules_text(rules: &Section, trace: &[u8], report: &[u8]) -> String {
     let settings: Vec<(i32, i32, u16)> = rules.records(trace).map(rule_of).collect();
-    let (off, on): (Vec<usize>, Vec<usize>) = (0..16).partition(|&rule| settings[rule].2 == 0);
+    let row = |rule: usize| &report[10 * rule..10 * rule + 10];
+    let (off, on): (Vec<usize>, Vec<usize>) = (0..16).partition(|&rule| settings[rule].2 == 0 && row(rule) == CLEAR_ROW);
     let mut text = "Rules at the end of the capture:\n".to_string();
     text.extend(on.into_iter().map(|rule| rule_text(rule, settings[rule], report)));
     let names: Vec<&str> = off.iter().map(|&rule| RULES[rule].short).collect();

@@ -24,7 +24,6 @@ fn meaning(number: u8) -> &'static str {
 
 // The section that runs past the end is the last that was found, or the next one's count is missing.
 fn past_the_end(sections: &[Section], length: usize) -> String {
-    let next = sections.last().map_or(4, |s| s.end());
     match sections.last() {
         Some(s) if s.end() > length => format!(
             "The count of the {} at byte {} says {}: {} bytes from byte {} on, but only {} are left.",
@@ -35,7 +34,10 @@ fn past_the_end(sections: &[Section], length: usize) -> String {
             s.place(0),
             length - s.place(0),
         ),
-        _ => format!("The count of the {} should be at byte {next}, but the file has {length} bytes.", NAMES[sections.len() % 4]),
+        last => {
+            let (next, at) = (NAMES[sections.len() % 4], last.map_or(4, |s| s.end()));
+            format!("The count of the {next} should be at byte {at}, but the file has {length} bytes.")
+        }
     }
 }
 

@@ -1,7 +1,6 @@
 // The words of a line of text, and what is wrong with a line.
 use std::ops::RangeInclusive;
 
-#[derive(Debug)]
 pub struct Fault {
     pub line: usize,
     pub message: String,
