@@ -12,6 +12,7 @@ pub struct Sample {
 // A rule is its threshold, recovery and time; a hole its first and last tick; a reply its tick and bus bytes.
 #[derive(Clone)]
 pub struct Trace {
+    pub version: u8,
     pub cells: u8,
     pub idle: u16,
     pub rules: [(i32, i32, u16); 16],
@@ -23,11 +24,12 @@ pub struct Trace {
 impl Trace {
     // No record, and all rules off.
     pub fn new(cells: u8) -> Trace {
-        Trace { cells, idle: 0, rules: [(0, 0, 0); 16], holes: Vec::new(), replies: Vec::new(), samples: Vec::new() }
+        let (holes, replies, samples) = (Vec::new(), Vec::new(), Vec::new());
+        Trace { version: 1, cells, idle: 0, rules: [(0, 0, 0); 16], holes, replies, samples }
     }
 
     pub fn bytes(&self) -> Vec<u8> {
-        let mut out = vec![1, self.cells];
+        let mut out = vec![self.version, self.cells];
         out.extend(self.idle.to_le_bytes());
         out.extend(16u16.to_le_bytes());
         for (threshold, recovery, time) in self.rules {

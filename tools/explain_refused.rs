@@ -1,0 +1,145 @@
+// A refusal in words, and where in the file to look (paper 01, 'Refusal numbers').
+use crate::explain_accepted::{tick_text, title};
+use crate::names::RULES;
+use crate::trace_layout::{hole_of, idle_of, reply_of, rule_of, sample_of, sections, whole, Section, NAMES};
+
+fn meaning(number: u8) -> &'static str {
+    match number {
+        1 => "the file is shorter than the four bytes of the head",
+        2 => "the version is not 1",
+        3 => "the number of cells is not 3 to 12",
+        4 => "the idle current is over 32766 mA",
+        5 => "a count or a section runs past the end of the file",
+        6 => "the number of rules is not 16",
+        7 => "a rule that is on is outside its limits",
+        8 => "a hole is reversed, not after the hole before it, or ends at tick 4294967295",
+        9 => "a tick is covered by no record or by two, or a record is left over",
+        10 => "a reply is earlier than the reply before it, or past the last tick",
+        11 => "bytes are left over after the last section",
+        14 => "the file is longer than 65536 bytes",
+        12 | 13 | 15 | 16 => "a refusal of a call, which the program does not give",
+        _ => "a number that paper 01 does not have",
+    }
+}
+
+// The section that runs past the end is the last that was found, or the next one's count is missing.
+fn past_the_end(sections: &[Section], length: usize) -> String {
+    match sections.last() {
+        Some(s) if s.end() > length => format!(
+            "The count of the {} at byte {} says {}: {} bytes from byte {} on, but only {} are left.",
+            NAMES[sections.len() - 1],
+            s.count_at,
+            s.count,
+            s.end() - s.place(0),
+            s.place(0),
+            length - s.place(0),
+        ),
+        last => {
+            let (next, at) = (NAMES[sections.len() % 4], last.map_or(4, |s| s.end()));
+            format!("The count of the {next} should be at byte {at}, but the file has {length} bytes.")
+        }
+    }
+}
+
+// The limits of paper 01 for an enabled rule, with the ends of its quantity's range.
+fn limits_text(rule: usize, cells: u8) -> String {
+    let (low, high) = match rule {
+        0 | 1 | 10 | 15 => (0, 65_535),
+        2 | 3 => (0, 65_535 * cells as i32),
+        _ => (-32_768, 32_767),
+    };
+    let order = match rule {
+        1 | 3 | 5 | 9 => format!("{low} < threshold <= recovery < {high}"),
+        0..=9 => format!("{low} < recovery <= threshold < {high}"),
+        12 => format!("{low} < threshold <= {high}, recovery 0"),
+        _ => format!("{low} <= threshold < {high}, recovery 0"),
+    };
+    format!("Its limits: {order}, time 1 to 255.")
+}
+
+fn rule_place(rules: &Section, trace: &[u8], rule: usize) -> Option<String> {
+    let (threshold, recovery, time) = rule_of(rules.records(trace).nth(rule)?);
+    Some(format!(
+        "{} is rule {rule} at byte {}: threshold {threshold}, recovery {recovery}, time {time}, in {}.\n{}",
+        title(rule),
+        rules.place(rule),
+        RULES[rule].unit,
+        limits_text(rule, trace[1]),
+    ))
+}
+
+fn hole_text(holes: &Section, trace: &[u8], index: usize) -> Option<String> {
+    let (first, last) = hole_of(holes.records(trace).nth(index)?);
+    Some(format!("hole {index} at byte {}, ticks {first} to {last}", holes.place(index)))
+}
+
+fn sample_text(samples: &Section, trace: &[u8], index: usize) -> Option<String> {
+    let tick = sample_of(samples.records(trace).nth(index)?).tick;
+    Some(format!("sample {index} at byte {}, tick {tick}", samples.place(index)))
+}
+
+fn reply_text(replies: &Section, trace: &[u8], index: usize) -> Option<String> {
+    let tick = reply_of(replies.records(trace).nth(index)?).0;
+    Some(format!("reply {index} at byte {}, tick {tick}", replies.place(index)))
+}
+
+// A record and, if there is one, the one before it.
+fn with_previous(text: impl Fn(usize) -> Option<String>, index: usize) -> Option<String> {
+    let own = text(index)?;
+    let before = index.checked_sub(1).and_then(text);
+    Some(format!("It is {own}; {}.", before.map_or("it is the first".to_string(), |b| format!("before it is {b}"))))
+}
+
+// What comes next at the expected tick. Below it each tick was covered once: by a hole that begins below, or by a sample.
+fn coverage_place(sections: &[Section], trace: &[u8], tick: u32) -> String {
+    let taken: Vec<(u32, u32)> = sections[1].records(trace).map(hole_of).take_while(|h| h.0 < tick).collect();
+    let unseen: u64 = taken.iter().map(|h| h.1 as u64 + 1 - h.0 as u64).sum();
+    let hole = hole_text(&sections[1], trace, taken.len());
+    let sample = sample_text(&sections[3], trace, (tick as u64).saturating_sub(unseen) as usize);
+    format!(
+        "The first tick that is not covered once is {}.\nNext hole: {}.\nNext sample: {}.",
+        tick_text(tick),
+        hole.unwrap_or("none left".to_string()),
+        sample.unwrap_or("none left".to_string()),
+    )
+}
+
+fn last_tick_text(sections: &[Section], trace: &[u8]) -> String {
+    let hole = sections[1].records(trace).last().map(|h| hole_of(h).1);
+    let sample = sections[3].records(trace).last().map(|s| sample_of(s).tick);
+    hole.max(sample).map_or("No tick is covered.".to_string(), |tick| format!("The last tick is {tick}."))
+}
+
+// Where to look. None if the trace has no such place.
+fn place_text(sections: &[Section], trace: &[u8], number: u8, place: u32) -> Option<String> {
+    let index = place as usize;
+    if matches!(number, 7..=11) && !whole(sections, trace) || matches!(number, 2..=4) && trace.len() < 4 {
+        return None;
+    }
+    Some(match number {
+        1 | 14 => format!("The file has {} bytes.", trace.len()),
+        2 => format!("The version is byte 0: {}.", trace[0]),
+        3 => format!("The number of cells is byte 1: {}.", trace[1]),
+        4 => format!("The idle current is at byte 2: {} mA.", idle_of(trace)),
+        5 => past_the_end(sections, trace.len()),
+        6 => format!("The number of rules is at byte 4: {}.", sections.first()?.count),
+        7 => rule_place(&sections[0], trace, index)?,
+        8 => with_previous(|i| hole_text(&sections[1], trace, i), index)?,
+        9 => coverage_place(sections, trace, place),
+        10 => {
+            let reply = with_previous(|i| reply_text(&sections[2], trace, i), index)?;
+            format!("{reply} {}", last_tick_text(sections, trace))
+        }
+        11 => {
+            let end = sections[3].end();
+            format!("The last section ends with byte {}; {} bytes follow it.", end - 1, trace.len() - end)
+        }
+        _ => return None,
+    })
+}
+
+pub fn explained(trace: &[u8], number: u8, place: u32) -> String {
+    let look = place_text(&sections(trace), trace, number, place);
+    let look = look.unwrap_or("The trace has no such place.".to_string());
+    format!("Refused, number {number} at {place}: {}.\n{look}\n", meaning(number))
+}

@@ -1,0 +1,59 @@
+// `trace_text assemble [FILE]` writes the bytes of a trace given as text, `trace_text disassemble [FILE]` the text of bytes.
+// Without FILE it reads standard input. The text is explained in examples/README.md.
+#[path = "names.rs"]
+mod names;
+#[path = "text_lines.rs"]
+mod text_lines;
+#[path = "text_to_trace.rs"]
+mod text_to_trace;
+#[path = "trace_bytes.rs"]
+mod trace_bytes;
+#[path = "trace_layout.rs"]
+mod trace_layout;
+#[path = "trace_to_text.rs"]
+mod trace_to_text;
+
+use std::io::{Read, Write};
+use std::process::exit;
+
+fn stop(message: String) -> ! {
+    eprintln!("{message}");
+    exit(2)
+}
+
+fn read(job: &str, file: Option<&String>) -> Vec<u8> {
+    let mut bytes = Vec::new();
+    let result = match file {
+        Some(name) => std::fs::read(name).map(|read| bytes = read),
+        None => std::io::stdin().read_to_end(&mut bytes).map(drop),
+    };
+    if let Err(why) = result {
+        stop(format!("{job}: {}: {why}", source(file)));
+    }
+    bytes
+}
+
+fn source(file: Option<&String>) -> &str {
+    file.map_or("standard input", |name| name)
+}
+
+fn main() {
+    let arguments: Vec<String> = std::env::args().skip(1).collect();
+    let job = arguments.first().map_or("", |a| a);
+    if !matches!(job, "assemble" | "disassemble") || arguments.len() > 2 {
+        stop(format!("usage: tools/{} [FILE]", if job.is_empty() { "assemble" } else { job }));
+    }
+    let file = arguments.get(1);
+    let input = read(job, file);
+    let output = if job == "disassemble" {
+        trace_to_text::disassemble(&input).into_bytes()
+    } else {
+        match text_to_trace::assemble(&String::from_utf8_lossy(&input)) {
+            Ok(bytes) => bytes,
+            Err(fault) => stop(format!("assemble: {}, line {}: {}", source(file), fault.line, fault.message)),
+        }
+    };
+    if let Err(why) = std::io::stdout().write_all(&output) {
+        stop(format!("{job}: standard output: {why}"));
+    }
+}
