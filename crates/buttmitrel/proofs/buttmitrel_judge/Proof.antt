@@ -1,9 +1,9 @@
 use mathlib.Core.Path.{sym, ap, _∙_}
 use borrow.Author.Needs.{needs}
 use Rattle.judge.specs.Judge.{answerOfJudged}
-use Rattle.judge_bench.specs.Code.{codeOf}
-use Rattle.judge_bench.proofs.judge_bench.Statement.{statement}
-use Rattle.judge_bench.proofs.judge_bench.Tie as tie
+use Rattle.buttmitrel.specs.Code.{codeOf}
+use Rattle.buttmitrel.proofs.buttmitrel_judge.Statement.{statement}
+use Rattle.buttmitrel.proofs.buttmitrel_judge.Tie as tie
 
 judge-requires : tie.Need-judge-requires
 judge-requires c κs = search needs
@@ -39,8 +39,8 @@ returns-2 c =
     let e = c .before .before .before .before .before .before .before .before .judge .ensures in
     (c .code .ensures ∙ ap codeOf (sym (ap answerOfJudged (c .before .before .why .given .1)) ∙ e .0), e .1)
 
-pub judge-bench-spec : {M : Type 1} → statement M
-judge-bench-spec =
+pub buttmitrel-judge-spec : {M : Type 1} → statement M
+buttmitrel-judge-spec =
     tie.close
     (tie.spec
     judge-requires
