@@ -1,4 +1,5 @@
 pub mod Searches
+pub mod Gaps
 pub mod Runs
 pub mod RunTicks
 pub mod UnseenRuns

@@ -1,11 +1,10 @@
 -- The first number at which a test holds.
 use Prim.Native.Nat.{ℕ, zero, suc, _+_, _-_, _≤_, _<_}
-use mathlib.Core.Path.{_≡_, refl, ap, sym, _∙_}
+use mathlib.Core.Path.{_≡_, refl, ap, ap₂, sym, _∙_}
 use mathlib.Core.Bool.{Bool, true, false, cond}
 use mathlib.Core.Logic.{⊎-elim}
 use native.Mathlib.Omega.{arith}
 use native.Mathlib.Nat.{eq-or-lt-of-le}
-use native.Mathlib.Numerals.{add-one}
 use Rattle.fillings.specs.Flags.{firstFrom}
 use Rattle.first_ticks.specs.Firsts.{none}
 
@@ -69,27 +68,36 @@ module _ (test : ℕ → Bool) where
       go true t v more z = absurd (omega arith)
       go false t v more z = ⊎-elim (λ d. ap test (sym d) ∙ t) (more z) (eq-or-lt-of-le h)
 
+  -- where the test holds at none of the first r numbers, the first is among those after them
+  pub first-skip : (r a n : ℕ) → Missing a r test → firstFrom a n test ≡ firstFrom (a + r) (n - r) test
+  unfolding firstFrom
+  first-skip zero a n f =
+      let x : a ≡ a + 0 = omega arith in
+      let y : n ≡ n - 0 = omega arith in
+      ap₂ (λ (b m : ℕ). firstFrom b m test) x y
+  first-skip (suc r) a zero f = let y : 0 ≡ 0 - suc r = omega arith in ap (λ (m : ℕ). firstFrom (a + suc r) m test) y
+  first-skip (suc r) a (suc n) f =
+      let x : suc a + r ≡ a + suc r = omega arith in
+      let y : n - r ≡ suc n - suc r = omega arith in
+      at-first a n false (f a (omega arith) (omega arith))
+      ∙ first-skip r (suc a) n (λ u h l. f u (omega arith) (omega arith))
+      ∙ ap₂ (λ (b m : ℕ). firstFrom b m test) x y
+
 -- The loop of a search: the first of n numbers is the first of those that are left.
 pub record Searching (n : ℕ) (test : ℕ → Bool) (j : ℕ) : Type 0 where
-  pub within : j ≤ n
   pub holds : firstFrom 0 n test ≡ firstFrom j (n - j) test
 
 module _ (n : ℕ) (test : ℕ → Bool) where
   pub searching-start : Searching n test 0
-  searching-start = let e : n ≡ n - 0 = omega arith in record { within = omega arith; holds = ap (λ (x : ℕ). firstFrom 0 x test) e }
+  searching-start = let e : n ≡ n - 0 = omega arith in record { holds = ap (λ (x : ℕ). firstFrom 0 x test) e }
 
   left : (j : ℕ) → j < n → n - j ≡ suc (n - suc j)
   left j h = omega arith
 
-  pub searching-next : (j : ℕ) → Searching n test j → j < n → test j ≡ false → Searching n test (j + 1)
-  searching-next j s h e = record {
-    within = omega arith;
-    holds =
-        s .holds
-        ∙ ap (λ (x : ℕ). firstFrom j x test) (left j h)
-        ∙ at-first test j (n - suc j) false e
-        ∙ ap (λ (x : ℕ). firstFrom x (n - x) test) (sym (add-one j));
-  }
+  pub searching-skip : (j r : ℕ) → Searching n test j → Missing j r test → Searching n test (j + r)
+  searching-skip j r s f =
+      let e : n - j - r ≡ n - (j + r) = omega arith in
+      record { holds = s .holds ∙ first-skip test r j (n - j) f ∙ ap (λ (x : ℕ). firstFrom (j + r) x test) e }
 
   pub searching-found : (j : ℕ) → Searching n test j → j < n → test j ≡ true → j ≡ firstFrom 0 n test
   searching-found j s h e = sym (s .holds ∙ ap (λ (x : ℕ). firstFrom j x test) (left j h) ∙ at-first test j (n - suc j) true e)

@@ -70,7 +70,7 @@ fn smaller(n: u64, top: usize) -> usize
     top
 }
 
-// The fewest of n unseen evaluations that lead rule i to its top state, or none.
+// The fewest of n unseen evaluations that lead rule i to its top state, or none. States that are impossible are passed a word at a time.
 fn fewest_unseen(words: &[u64], i: usize, top: usize, n: u64) -> u32
     requires { ⌜ top ≤ 256 ⌝ }
     ensures { λ r. ⌜ r ≡ firstFrom 0 (suc (min n top)) (λ j. allowed (now (words .entry)) i (top - j)) ⌝ }
@@ -78,10 +78,11 @@ fn fewest_unseen(words: &[u64], i: usize, top: usize, n: u64) -> u32
     let end = smaller(n, top);
     let mut j: usize = 0;
     while j <= end {
-        if states::allows(words, i, top - j) {
+        let gap = states::gap(words, i, top - j);
+        if gap == 0 {
             return j as u32;
         }
-        j += 1;
+        j += gap;
     }
     NONE
 }

@@ -12,5 +12,6 @@ pub mod Tops
 pub mod RuleSteps
 pub mod RuleFlagLaws
 pub mod OneRule
+pub mod Gaps
 pub mod OffRules
 pub mod Tracking

@@ -14,6 +14,7 @@ mod words;
 use flags::Flags;
 pub use reading::allows;
 pub use reading::flags_in;
+pub use reading::gap;
 pub use reading::status_in;
 use rules::Readings;
 use rules::Settings;

@@ -1,10 +1,10 @@
-// What is read off the record: the flags of all rules, the status of one, and whether a state is possible.
+// What is read off the record: the flags of all rules, the status of one, whether a state is possible, and how far down the next is.
 ghost use mathlib.Core.Path.{_≡_};
 ghost use Prim.Native.Nat.{_<_};
 ghost use lib.ListN.{length};
 ghost use Rattle.rules.specs.Evaluation.{top};
 ghost use Rattle.states.specs.Steps.{setOf};
-ghost use Rattle.states.specs.Readings.{flagsOf, allFlags, statusIn, allowed};
+ghost use Rattle.states.specs.Readings.{flagsOf, allFlags, statusIn, allowed, Zeros, Gap};
 use crate::record::load;
 use crate::words::alert_of;
 use crate::words::status_of;
@@ -80,4 +80,33 @@ pub fn allows(words: &[u64], i: usize, s: usize) -> bool
         }
     }
     false
+}
+
+// How many bits of x from bit c down are 0 before the first that is 1.
+fn zeros(x: u64, c: usize) -> usize
+    requires { ⌜ c < 64 ⌝ }
+    ensures { λ r. ⌜ Zeros x c r ⌝ }
+{
+    let y = x << (63 - c);
+    if y == 0 {
+        return c + 1;
+    }
+    u64::leading_zeros(y) as usize
+}
+
+// How many states of rule i from p down, in the word that holds p, are impossible before the first that is possible.
+pub fn gap(words: &[u64], i: usize, p: usize) -> usize
+    ensures { λ r. ⌜ Gap (now (words .entry)) i p r ⌝ }
+{
+    let c = p % 64;
+    if words.len() != 80 {
+        return c + 1;
+    }
+    if i < 16 {
+        if p < 320 {
+            let k = 5 * i + p / 64;
+            return zeros(words[k], c);
+        }
+    }
+    c + 1
 }

@@ -1,10 +1,11 @@
 use Prim.Native.Nat.{ℕ, suc, _-_}
-use mathlib.Core.Path.{ap, sym, _∙_}
+use mathlib.Core.Path.{ap, _∙_}
 use native.Mathlib.Omega.{arith}
 use borrow.Author.Needs.{needs}
 use Rattle.fillings.specs.Flags.{firstFrom}
 use Rattle.states.specs.Readings.{allowed}
-use Rattle.first_ticks.proofs.Searches.{Searching, searching-start, searching-next, searching-found, searching-end}
+use Rattle.first_ticks.proofs.Searches.{Searching, searching-start, searching-skip, searching-found, searching-end}
+use Rattle.first_ticks.proofs.Gaps.{gap-here, gap-missing}
 use Rattle.first_ticks.proofs.rule.fewest_unseen.Statement.{statement}
 use Rattle.first_ticks.proofs.rule.fewest_unseen.Tie as tie
 
@@ -20,11 +21,11 @@ smaller-requires c κs = search needs
 loop-holds : tie.Need-loop-holds Inv-loop μ-loop
 loop-holds c = searching-start _ _
 
-sub-allows : tie.Need-sub-allows Inv-loop μ-loop
-sub-allows c = omega (arith, c .before .before .smaller .ensures)
+sub-gap : tie.Need-sub-gap Inv-loop μ-loop
+sub-gap c = omega (arith, c .before .before .smaller .ensures)
 
-allows-requires : tie.Need-allows-requires Inv-loop μ-loop
-allows-requires c κs = search needs
+gap-requires : tie.Need-gap-requires Inv-loop μ-loop
+gap-requires c κs = search needs
 
 cast-result : tie.Need-cast-result Inv-loop μ-loop
 cast-result c = omega (arith, c .before .before .before .before .smaller .ensures)
@@ -33,19 +34,19 @@ returns : tie.Need-returns Inv-loop μ-loop
 returns c =
     let a = c .before .before .before .before .before .before .args in
     let h = c .before .before .loop-test .taken in
-    searching-found _ (λ k. allowed (a .words .now) (a .i) (a .top - k)) _ (c .before .before .before .loop .inv) (omega arith) (sym (c .before .allows .ensures) ∙ c .if1 .taken)
+    searching-found _ (λ k. allowed (a .words .now) (a .i) (a .top - k)) _ (c .before .before .before .loop .inv) (omega arith) (gap-here _ _ _ _ _ (c .before .gap .ensures) (c .if1 .taken))
     ∙ ap (λ (x : ℕ). firstFrom 0 (suc x) (λ k. allowed (a .words .now) (a .i) (a .top - k))) (c .before .before .before .before .smaller .ensures)
 
 add-j : tie.Need-add-j Inv-loop μ-loop
-add-j c = omega arith
+add-j c = omega (arith, c .before .gap .ensures .within)
 
 loop-less : tie.Need-loop-less Inv-loop μ-loop
 loop-less c = omega arith
 
 loop-again : tie.Need-loop-again Inv-loop μ-loop
 loop-again c =
-    let h = c .before .before .loop-test .taken in
-    searching-next _ _ _ (c .before .before .before .loop .inv) (omega arith) (sym (c .before .allows .ensures) ∙ c .if1 .left)
+    let a = c .before .before .before .before .before .before .args in
+    searching-skip _ _ _ _ (c .before .before .before .loop .inv) (gap-missing (a .words .now) (a .i) (a .top) _ _ (c .before .gap .ensures))
 
 returns-2 : tie.Need-returns-2 Inv-loop μ-loop
 returns-2 c =
@@ -62,8 +63,8 @@ fewest-unseen-spec =
     μ-loop
     smaller-requires
     loop-holds
-    sub-allows
-    allows-requires
+    sub-gap
+    gap-requires
     cast-result
     returns
     add-j
