@@ -1,7 +1,7 @@
 -- How far down the next bit of a word is, and the next possible state of a rule.
-use Prim.Native.Nat.{ℕ, suc, _+_, _*_, _^_, _-_, _/_, _%_, _≤_, _<_}
-use mathlib.Core.Path.{_≡_, ap, ap₂, sym, _∙_}
-use mathlib.Core.Bool.{true, false}
+use Prim.Native.Nat.{ℕ, zero, suc, _+_, _*_, _^_, _-_, _/_, _%_, _≤_, _<_}
+use mathlib.Core.Path.{_≡_, refl, ap, ap₂, sym, _∙_}
+use mathlib.Core.Bool.{Bool, true, false, cond}
 use mathlib.Core.List.{List}
 use mathlib.Core.Logic.{⊎-elim}
 use native.Mathlib.Omega.{arith}
@@ -11,9 +11,45 @@ use lib.Count.{leadingZeros, leading-top}
 use lib.ListN.{getD, length}
 use borrow.Author.Tests.{eq-eqb, ne-eqb, lt-ltb, le-ltb}
 use Rattle.states.specs.Records.{bit}
-use Rattle.states.specs.Readings.{allowed, Zeros, Gap}
+use Rattle.states.specs.Words.{Zeros}
+use Rattle.states.specs.Readings.{allowed, failing, gapOf}
 use Rattle.states.proofs.Bits.{bit-zero, bit-mod, bit-mod-above, bit-shl, bit-shl-below, bit-top, below?}
 use Rattle.states.proofs.OneRule.{allowed-word}
+
+-- How many of n tests fail, as what is known of each test.
+pub record Failing (n : ℕ) (test : ℕ → Bool) (r : ℕ) : Type 0 where
+  pub within : r ≤ n
+  pub none : (u : ℕ) → u < r → test u ≡ false
+  pub next : r < n → test r ≡ true
+
+pub failing-is : (n : ℕ) (test : ℕ → Bool) (r : ℕ) → Failing n test r → r ≡ failing n test
+unfolding failing
+failing-is zero test r k = let w = k .within in omega arith
+failing-is (suc n) test zero k = sym (ap (λ (b : Bool). cond b 0 (suc (failing n (λ u. test (suc u))))) (k .next (omega arith)))
+failing-is (suc n) test (suc r) k =
+    let w = k .within in
+    ap suc (failing-is n (λ u. test (suc u)) r (record { within = omega arith; none = λ u h. k .none (suc u) (omega arith); next = λ h. k .next (omega arith) }))
+    ∙ sym (ap (λ (b : Bool). cond b 0 (suc (failing n (λ u. test (suc u))))) (k .none 0 (omega arith)))
+
+pub failing-of : (n : ℕ) (test : ℕ → Bool) → Failing n test (failing n test)
+unfolding failing
+failing-of zero test = record { within = omega arith; none = λ u h. absurd (omega arith); next = λ h. absurd (omega arith) }
+failing-of (suc n) test = go (test 0) refl (failing-of n (λ u. test (suc u)))
+  where
+    go : (b : Bool) → test 0 ≡ b → Failing n (λ u. test (suc u)) (failing n (λ u. test (suc u)))
+        → Failing (suc n) test (cond b 0 (suc (failing n (λ u. test (suc u)))))
+    go true e k = record { within = omega arith; none = λ u h. absurd (omega arith); next = λ h. e }
+    go false e k =
+        let w = k .within in
+        record { within = omega arith; none = λ u h. below u h; next = λ h. k .next (omega arith) }
+      where
+        below : (u : ℕ) → u < suc (failing n (λ v. test (suc v))) → test u ≡ false
+        below zero h = e
+        below (suc u) h = k .none u (omega arith)
+
+-- From state p of rule i down, r states are impossible, and the next, if one is left in the word that holds p, is possible.
+abbrev pub Gap : List ℕ → ℕ → ℕ → ℕ → Type 0
+Gap ws i p r = Failing (suc (p % 64)) (λ u. allowed ws i (p - u)) r
 
 -- a number below 2 ^ k has no bit from k on
 bit-over : (n k r : ℕ) → n < 2 ^ k → k ≤ r → bit n r ≡ false
@@ -61,22 +97,20 @@ module _ (x c : ℕ) (in-word : c < 64) where
 
 module _ (ws : List ℕ) (i p : ℕ) where
   -- where no state of the word is possible
-  gap-all : ((s : ℕ) → p / 64 * 64 ≤ s → allowed ws i s ≡ false) → Gap ws i p (p % 64 + 1)
-  gap-all f = record {
-    within = omega arith;
-    none = λ u h. f (p - u) (omega arith);
-    next = λ h. absurd (omega arith);
-  }
+  gap-all : ((s : ℕ) → p / 64 * 64 ≤ s → allowed ws i s ≡ false) → p % 64 + 1 ≡ gapOf ws i p
+  gap-all f =
+      failing-is (suc (p % 64)) (λ u. allowed ws i (p - u)) (p % 64 + 1)
+      (record { within = omega arith; none = λ u h. f (p - u) (omega arith); next = λ h. absurd (omega arith) })
 
-  pub gap-no-record : (length ws ≡ 80 → ⊥) → Gap ws i p (p % 64 + 1)
+  pub gap-no-record : (length ws ≡ 80 → ⊥) → p % 64 + 1 ≡ gapOf ws i p
   unfolding allowed
   gap-no-record n = gap-all (λ s h. rw (ne-eqb (length ws) 80 n))
 
-  pub gap-no-rule : length ws ≡ 80 → 16 ≤ i → Gap ws i p (p % 64 + 1)
+  pub gap-no-rule : length ws ≡ 80 → 16 ≤ i → p % 64 + 1 ≡ gapOf ws i p
   unfolding allowed
   gap-no-rule e n = gap-all (λ s h. rw (eq-eqb (length ws) 80 e, le-ltb i 16 n))
 
-  pub gap-no-state : length ws ≡ 80 → i < 16 → 320 ≤ p → Gap ws i p (p % 64 + 1)
+  pub gap-no-state : length ws ≡ 80 → i < 16 → 320 ≤ p → p % 64 + 1 ≡ gapOf ws i p
   unfolding allowed
   gap-no-state e l n = gap-all (λ s h. rw (eq-eqb (length ws) 80 e, lt-ltb i 16 l, le-ltb s 320 (omega arith)))
 
@@ -88,11 +122,8 @@ module _ (ws : List ℕ) (i p : ℕ) (long : length ws ≡ 80) (rule : i < 16) (
       let m : p % 64 - u ≡ (p - u) % 64 = omega arith in
       ap₂ (λ (k r : ℕ). bit (getD ws (5 * i + k) 0) r) d m ∙ allowed-word ws i long rule (p - u) (omega arith)
 
-  pub gap-zeros : (r : ℕ) → Zeros (getD ws (5 * i + p / 64) 0) (p % 64) r → Gap ws i p r
+  pub gap-zeros : (r : ℕ) → Zeros (getD ws (5 * i + p / 64) 0) (p % 64) r → r ≡ gapOf ws i p
   gap-zeros r z =
       let w : r ≤ p % 64 + 1 = z .within in
-      record {
-        within = w;
-        none = λ u h. sym (in-gap u (omega arith)) ∙ z .none u h;
-        next = λ h. sym (in-gap r h) ∙ z .next h;
-      }
+      failing-is (suc (p % 64)) (λ u. allowed ws i (p - u)) r
+      (record { within = omega arith; none = λ u h. sym (in-gap u (omega arith)) ∙ z .none u h; next = λ h. sym (in-gap r (omega arith)) ∙ z .next (omega arith) })

@@ -1,7 +1,6 @@
 -- The flags of all rules, read off the record of possible states.
-use Prim.Native.Nat.{ℕ, _+_, _-_, _%_, _≤_, _<_}
-use mathlib.Core.Path.{_≡_}
-use mathlib.Core.Bool.{Bool, true, false, cond, _&&_}
+use Prim.Native.Nat.{ℕ, zero, suc, _-_, _%_}
+use mathlib.Core.Bool.{Bool, cond, _&&_}
 use mathlib.Core.List.{List}
 use lib.Dec.{ltb, eqb}
 use lib.ListN.{length}
@@ -12,7 +11,7 @@ use Rattle.flags.specs.declared.Flag.the-variants.{Unknown}
 use Rattle.flags.specs.declared.RuleFlags.{RuleFlags}
 use Rattle.fillings.specs.PossibleStates.{tabulate}
 use Rattle.fillings.specs.Flags.{flag}
-use Rattle.states.specs.Records.{bit, at, ruleWords}
+use Rattle.states.specs.Records.{at, ruleWords}
 use Rattle.states.specs.Steps.{settingOf, setOf}
 
 -- The alert and the status of a set of the states 0 to m.
@@ -35,14 +34,11 @@ statusIn s i ws =
 unfoldable pub allowed : List ℕ → ℕ → ℕ → Bool
 allowed ws i s = eqb (length ws) 80 && (ltb i 16 && (ltb s 320 && at (ruleWords ws i) s))
 
--- From bit c down, r bits of a word are 0, and the next, if one is left, is 1.
-pub record Zeros (x c r : ℕ) : Type 0 where
-  pub within : r ≤ c + 1
-  pub none : (u : ℕ) → u < r → bit x (c - u) ≡ false
-  pub next : r ≤ c → bit x (c - r) ≡ true
+-- How many of n tests fail before the first that holds.
+unfoldable pub failing : ℕ → (ℕ → Bool) → ℕ
+failing zero test = 0
+failing (suc n) test = cond (test 0) 0 (suc (failing n (λ u. test (suc u))))
 
--- From state p of rule i down, r states are impossible, and the next, if one is left in the word that holds p, is possible.
-pub record Gap (ws : List ℕ) (i p r : ℕ) : Type 0 where
-  pub within : r ≤ p % 64 + 1
-  pub none : (u : ℕ) → u < r → allowed ws i (p - u) ≡ false
-  pub next : r ≤ p % 64 → allowed ws i (p - r) ≡ true
+-- How many states of rule i from p down, in the word that holds p, are impossible before the first that is possible.
+abbrev pub gapOf : List ℕ → ℕ → ℕ → ℕ
+gapOf ws i p = failing (suc (p % 64)) (λ u. allowed ws i (p - u))

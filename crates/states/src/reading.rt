@@ -4,7 +4,8 @@ ghost use Prim.Native.Nat.{_<_};
 ghost use lib.ListN.{length};
 ghost use Rattle.rules.specs.Evaluation.{top};
 ghost use Rattle.states.specs.Steps.{setOf};
-ghost use Rattle.states.specs.Readings.{flagsOf, allFlags, statusIn, allowed, Zeros, Gap};
+ghost use Rattle.states.specs.Words.{Zeros};
+ghost use Rattle.states.specs.Readings.{flagsOf, allFlags, statusIn, allowed, gapOf};
 use crate::record::load;
 use crate::words::alert_of;
 use crate::words::status_of;
@@ -96,7 +97,7 @@ fn zeros(x: u64, c: usize) -> usize
 
 // How many states of rule i from p down, in the word that holds p, are impossible before the first that is possible.
 pub fn gap(words: &[u64], i: usize, p: usize) -> usize
-    ensures { λ r. ⌜ Gap (now (words .entry)) i p r ⌝ }
+    ensures { λ r. ⌜ r ≡ gapOf (now (words .entry)) i p ⌝ }
 {
     let c = p % 64;
     if words.len() != 80 {

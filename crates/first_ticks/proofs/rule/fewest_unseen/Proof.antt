@@ -5,7 +5,7 @@ use borrow.Author.Needs.{needs}
 use Rattle.fillings.specs.Flags.{firstFrom}
 use Rattle.states.specs.Readings.{allowed}
 use Rattle.first_ticks.proofs.Searches.{Searching, searching-start, searching-skip, searching-found, searching-end}
-use Rattle.first_ticks.proofs.Gaps.{gap-here, gap-missing}
+use Rattle.first_ticks.proofs.Gaps.{gap-small, gap-here, gap-missing}
 use Rattle.first_ticks.proofs.rule.fewest_unseen.Statement.{statement}
 use Rattle.first_ticks.proofs.rule.fewest_unseen.Tie as tie
 
@@ -38,7 +38,9 @@ returns c =
     ∙ ap (λ (x : ℕ). firstFrom 0 (suc x) (λ k. allowed (a .words .now) (a .i) (a .top - k))) (c .before .before .before .before .smaller .ensures)
 
 add-j : tie.Need-add-j Inv-loop μ-loop
-add-j c = omega (arith, c .before .gap .ensures .within)
+add-j c =
+    let a = c .before .before .before .before .before .before .args in
+    omega (arith, gap-small (a .words .now) (a .i) (a .top) _ _ (c .before .gap .ensures))
 
 loop-less : tie.Need-loop-less Inv-loop μ-loop
 loop-less c = omega arith
