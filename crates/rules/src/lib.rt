@@ -45,185 +45,175 @@ pub struct Table {
     pub of: [Row; 16],
 }
 
-// The whole table, for a loop over the rules: its rows under the manual's names.
+// The sixteen rules under the manual's names.
+const ROWS: [Row; 16] = [
+    // 0, COV
+    Row {
+        quantity: Quantity::HighestCell,
+        side: Side::High,
+        recovers: true,
+        even: false,
+        charge: true,
+        discharge: false,
+        bits: 0x4000,
+    },
+    // 1, CUV
+    Row {
+        quantity: Quantity::LowestCell,
+        side: Side::Low,
+        recovers: true,
+        even: false,
+        charge: false,
+        discharge: true,
+        bits: 0x0800,
+    },
+    // 2, POV
+    Row {
+        quantity: Quantity::SumOfCells,
+        side: Side::High,
+        recovers: true,
+        even: false,
+        charge: true,
+        discharge: false,
+        bits: 0x4000,
+    },
+    // 3, PUV
+    Row {
+        quantity: Quantity::SumOfCells,
+        side: Side::Low,
+        recovers: true,
+        even: false,
+        charge: false,
+        discharge: true,
+        bits: 0x0800,
+    },
+    // 4, OC Charge
+    Row {
+        quantity: Quantity::Current,
+        side: Side::High,
+        recovers: true,
+        even: false,
+        charge: true,
+        discharge: false,
+        bits: 0x4000,
+    },
+    // 5, OC Discharge
+    Row {
+        quantity: Quantity::Current,
+        side: Side::Low,
+        recovers: true,
+        even: false,
+        charge: false,
+        discharge: true,
+        bits: 0x0800,
+    },
+    // 6, OT Charge
+    Row {
+        quantity: Quantity::HighestTempCharging,
+        side: Side::High,
+        recovers: true,
+        even: true,
+        charge: true,
+        discharge: false,
+        bits: 0x5000,
+    },
+    // 7, OT Discharge
+    Row {
+        quantity: Quantity::HighestTempDischarging,
+        side: Side::High,
+        recovers: true,
+        even: true,
+        charge: false,
+        discharge: true,
+        bits: 0x1800,
+    },
+    // 8, Board Over Temperature
+    Row {
+        quantity: Quantity::Board,
+        side: Side::High,
+        recovers: true,
+        even: true,
+        charge: true,
+        discharge: true,
+        bits: 0x5800,
+    },
+    // 9, Discharge Under Temperature
+    Row {
+        quantity: Quantity::LowestTempDischarging,
+        side: Side::Low,
+        recovers: true,
+        even: true,
+        charge: false,
+        discharge: true,
+        bits: 0x0800,
+    },
+    // 10, SOV
+    Row {
+        quantity: Quantity::HighestCell,
+        side: Side::High,
+        recovers: false,
+        even: false,
+        charge: true,
+        discharge: true,
+        bits: 0x4800,
+    },
+    // 11, SOC Charge
+    Row {
+        quantity: Quantity::Current,
+        side: Side::High,
+        recovers: false,
+        even: false,
+        charge: true,
+        discharge: true,
+        bits: 0x4800,
+    },
+    // 12, SOC Discharge
+    Row {
+        quantity: Quantity::Current,
+        side: Side::Low,
+        recovers: false,
+        even: false,
+        charge: true,
+        discharge: true,
+        bits: 0x4800,
+    },
+    // 13, SOT Charge
+    Row {
+        quantity: Quantity::HighestTempCharging,
+        side: Side::High,
+        recovers: false,
+        even: true,
+        charge: true,
+        discharge: true,
+        bits: 0x5800,
+    },
+    // 14, SOT Discharge
+    Row {
+        quantity: Quantity::HighestTempDischarging,
+        side: Side::High,
+        recovers: false,
+        even: true,
+        charge: true,
+        discharge: true,
+        bits: 0x5800,
+    },
+    // 15, Cell Imbalance
+    Row {
+        quantity: Quantity::CellDifference,
+        side: Side::High,
+        recovers: false,
+        even: false,
+        charge: true,
+        discharge: true,
+        bits: 0x4800,
+    },
+];
+
+// The whole table, for a loop over the rules.
 pub fn all_rows() -> Table
     ensures { λ t. ⌜ t .of ≡ rows ⌝ }
 {
-    let highest_cell = Quantity::HighestCell;
-    let lowest_cell = Quantity::LowestCell;
-    let sum_of_cells = Quantity::SumOfCells;
-    let current = Quantity::Current;
-    let highest_temp_charging = Quantity::HighestTempCharging;
-    let highest_temp_discharging = Quantity::HighestTempDischarging;
-    let board = Quantity::Board;
-    let lowest_temp_discharging = Quantity::LowestTempDischarging;
-    let cell_difference = Quantity::CellDifference;
-    let high = Side::High;
-    let low = Side::Low;
-    Table {
-        of: [
-            // 0, COV
-            Row {
-                quantity: highest_cell,
-                side: high,
-                recovers: true,
-                even: false,
-                charge: true,
-                discharge: false,
-                bits: 0x4000,
-            },
-            // 1, CUV
-            Row {
-                quantity: lowest_cell,
-                side: low,
-                recovers: true,
-                even: false,
-                charge: false,
-                discharge: true,
-                bits: 0x0800,
-            },
-            // 2, POV
-            Row {
-                quantity: sum_of_cells,
-                side: high,
-                recovers: true,
-                even: false,
-                charge: true,
-                discharge: false,
-                bits: 0x4000,
-            },
-            // 3, PUV
-            Row {
-                quantity: sum_of_cells,
-                side: low,
-                recovers: true,
-                even: false,
-                charge: false,
-                discharge: true,
-                bits: 0x0800,
-            },
-            // 4, OC Charge
-            Row {
-                quantity: current,
-                side: high,
-                recovers: true,
-                even: false,
-                charge: true,
-                discharge: false,
-                bits: 0x4000,
-            },
-            // 5, OC Discharge
-            Row {
-                quantity: current,
-                side: low,
-                recovers: true,
-                even: false,
-                charge: false,
-                discharge: true,
-                bits: 0x0800,
-            },
-            // 6, OT Charge
-            Row {
-                quantity: highest_temp_charging,
-                side: high,
-                recovers: true,
-                even: true,
-                charge: true,
-                discharge: false,
-                bits: 0x5000,
-            },
-            // 7, OT Discharge
-            Row {
-                quantity: highest_temp_discharging,
-                side: high,
-                recovers: true,
-                even: true,
-                charge: false,
-                discharge: true,
-                bits: 0x1800,
-            },
-            // 8, Board Over Temperature
-            Row {
-                quantity: board,
-                side: high,
-                recovers: true,
-                even: true,
-                charge: true,
-                discharge: true,
-                bits: 0x5800,
-            },
-            // 9, Discharge Under Temperature
-            Row {
-                quantity: lowest_temp_discharging,
-                side: low,
-                recovers: true,
-                even: true,
-                charge: false,
-                discharge: true,
-                bits: 0x0800,
-            },
-            // 10, SOV
-            Row {
-                quantity: highest_cell,
-                side: high,
-                recovers: false,
-                even: false,
-                charge: true,
-                discharge: true,
-                bits: 0x4800,
-            },
-            // 11, SOC Charge
-            Row {
-                quantity: current,
-                side: high,
-                recovers: false,
-                even: false,
-                charge: true,
-                discharge: true,
-                bits: 0x4800,
-            },
-            // 12, SOC Discharge
-            Row {
-                quantity: current,
-                side: low,
-                recovers: false,
-                even: false,
-                charge: true,
-                discharge: true,
-                bits: 0x4800,
-            },
-            // 13, SOT Charge
-            Row {
-                quantity: highest_temp_charging,
-                side: high,
-                recovers: false,
-                even: true,
-                charge: true,
-                discharge: true,
-                bits: 0x5800,
-            },
-            // 14, SOT Discharge
-            Row {
-                quantity: highest_temp_discharging,
-                side: high,
-                recovers: false,
-                even: true,
-                charge: true,
-                discharge: true,
-                bits: 0x5800,
-            },
-            // 15, Cell Imbalance
-            Row {
-                quantity: cell_difference,
-                side: high,
-                recovers: false,
-                even: false,
-                charge: true,
-                discharge: true,
-                bits: 0x4800,
-            },
-        ],
-    }
+    Table { of: ROWS }
 }
 
 // The row of a rule; past the table one that drives nothing.
