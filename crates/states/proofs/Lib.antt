@@ -14,3 +14,4 @@ pub mod RuleFlagLaws
 pub mod OneRule
 pub mod OffRules
 pub mod Tracking
+pub mod ValidWords

@@ -9,6 +9,7 @@ mod reading;
 mod record;
 mod seen;
 mod unseen;
+mod validity;
 mod words;
 
 use flags::Flags;
@@ -20,6 +21,7 @@ use rules::Settings;
 pub use seen::see;
 pub use unseen::evaluations_in;
 pub use unseen::miss;
+pub use validity::valid;
 
 // Five words a rule: state s of rule i is bit s of the words from 5 i on, the lowest first.
 pub struct States {
