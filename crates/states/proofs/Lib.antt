@@ -15,3 +15,4 @@ pub mod OneRule
 pub mod OffRules
 pub mod Tracking
 pub mod ValidWords
+pub mod KeptValid
