@@ -1,31 +1,29 @@
+use mathlib.Core.Path.{sym, ap, _∙_}
+use Rattle.refusals.specs.Refusals.{answer}
+use Rattle.rules.specs.Table.{rows}
+use Rattle.flags.specs.Outputs.{outputOf, drivers, statusesOf}
 use borrow.Author.Needs.{needs}
 use Rattle.live.proofs.output.Statement.{statement}
 use Rattle.live.proofs.output.Tie as tie
-use Rattle.live.proofs.output.Reads as reads
-use Rattle.live.proofs.output.Lts as lts
-use Rattle.flags.proofs.output_of.Reads as output-of-reads
-use Rattle.live.proofs.checks.is_good.Reads as is-good-reads
-use Rattle.states.proofs.States.flags.Reads as flags-reads
 
--- src/lib.rt:144:8
 is-good-requires : tie.Need-is-good-requires
 is-good-requires c κs = search needs
 
--- src/lib.rt:147:13
 flags-requires : tie.Need-flags-requires
 flags-requires c κs = search needs
 
--- src/lib.rt:148:34
 output-of-requires : tie.Need-output-of-requires
 output-of-requires c κs = search needs
 
--- src/lib.rt:148:9
 returns : tie.Need-returns
-returns c = ?
+returns c =
+    let g = sym (c .before .before .before .before .before .is-good .ensures) ∙ c .before .before .before .before .if1 .taken in
+    rw g (ap answer (c .output-of .ensures ∙ ap (λ fs. outputOf (drivers (c .before .before .before .before .before .before .args .o)) rows (statusesOf fs)) (c .before .flags .ensures)))
 
--- src/lib.rt:141:1
 returns-2 : tie.Need-returns-2
-returns-2 c = ?
+returns-2 c =
+    let g = sym (c .before .is-good .ensures) ∙ c .if1 .left in
+    rw g
 
 pub output-spec : {M : Type 1} → statement M
 output-spec =

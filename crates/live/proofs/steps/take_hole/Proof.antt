@@ -1,34 +1,25 @@
+use Rattle.live.proofs.Stepping.{refuses, takes, hole-early, hole-late, hole-taken}
 use borrow.Author.Needs.{needs}
 use Rattle.live.proofs.steps.take_hole.Statement.{statement}
 use Rattle.live.proofs.steps.take_hole.Tie as tie
-use Rattle.live.proofs.steps.take_hole.Reads as reads
-use Rattle.live.proofs.steps.take_hole.Lts as lts
-use Rattle.live.proofs.steps.refuse.Reads as refuse-reads
-use Rattle.live.proofs.steps.with_hole.Reads as with-hole-reads
 
--- src/steps.rt:137:9
 refuse-requires : tie.Need-refuse-requires
 refuse-requires c κs = search needs
 
--- src/steps.rt:137:9
 returns : tie.Need-returns
-returns c = ?
+returns c = refuses (c .refuse .ensures) (hole-early _ _ (c .before .before .before .pre) (c .before .if1 .taken))
 
--- src/steps.rt:140:13
 with-hole-requires : tie.Need-with-hole-requires
 with-hole-requires c κs = search needs
 
--- src/steps.rt:141:9
 returns-2 : tie.Need-returns-2
-returns-2 c = ?
+returns-2 c = takes (c .with-hole .ensures) (hole-taken _ _ (c .before .before .before .before .pre) (c .before .before .if1 .left) (c .before .if2 .taken))
 
--- src/steps.rt:146:5
 refuse-requires-2 : tie.Need-refuse-requires-2
 refuse-requires-2 c κs = search needs
 
--- src/steps.rt:130:1
 returns-3 : tie.Need-returns-3
-returns-3 c = ?
+returns-3 c = refuses (c .refuse2 .ensures) (hole-late _ _ (c .before .before .before .before .pre) (c .before .before .if1 .left) (c .before .if2 .left))
 
 pub take-hole-spec : {M : Type 1} → statement M
 take-hole-spec =

@@ -1,34 +1,30 @@
+use mathlib.Core.Path.{sym, _∙_}
+use mir.Syntax.{w16}
+use mir.ValLaws.{toZ-ofZ}
+use Rattle.live.proofs.Stepping.{refuses, takes, tick-other, tick-next, tick-late}
 use borrow.Author.Needs.{needs}
 use Rattle.live.proofs.steps.take_readings.Statement.{statement}
 use Rattle.live.proofs.steps.take_readings.Tie as tie
-use Rattle.live.proofs.steps.take_readings.Reads as reads
-use Rattle.live.proofs.steps.take_readings.Lts as lts
-use Rattle.live.proofs.steps.refuse.Reads as refuse-reads
-use Rattle.live.proofs.steps.with_sample.Reads as with-sample-reads
 
--- src/steps.rt:99:9
 refuse-requires : tie.Need-refuse-requires
 refuse-requires c κs = search needs
 
--- src/steps.rt:99:9
 returns : tie.Need-returns
-returns c = ?
+returns c x e r = refuses (c .refuse .ensures) (tick-other (c .before .before .before .args .state) _ (c .before .if1 .taken))
 
--- src/steps.rt:102:13
 with-sample-requires : tie.Need-with-sample-requires
 with-sample-requires c κs = search needs
 
--- src/steps.rt:103:9
 returns-2 : tie.Need-returns-2
-returns-2 c = ?
+returns-2 c x e r =
+    let a = c .before .before .before .before in
+    takes (c .with-sample .ensures x (e ∙ sym (toZ-ofZ w16 (a .args .current) (a .fits .current))) r) (tick-next (a .args .state) _ (c .before .before .if1 .left) (c .before .if2 .taken))
 
--- src/steps.rt:108:5
 refuse-requires-2 : tie.Need-refuse-requires-2
 refuse-requires-2 c κs = search needs
 
--- src/steps.rt:92:1
 returns-3 : tie.Need-returns-3
-returns-3 c = ?
+returns-3 c x e r = refuses (c .refuse2 .ensures) (tick-late (c .before .before .before .before .args .state) _ (c .before .before .if1 .left) (c .before .if2 .left))
 
 pub take-readings-spec : {M : Type 1} → statement M
 take-readings-spec =

@@ -1,0 +1,2 @@
+pub mod GoodStates
+pub mod Stepping
