@@ -1,2 +1,3 @@
 pub mod GoodStates
 pub mod Stepping
+pub mod StaysGood
