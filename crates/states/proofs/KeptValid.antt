@@ -149,6 +149,7 @@ module _ (ss : List Setting) (ws : List ℕ) (t : T (validRecord ss ws)) where
     unseen-valid first last =
         rw (eq-eqb (length ws) 80 valid-long)
         (moved (λ i. movesBetween first last (settingOf ss i) i) (λ i. unseenTimes (evaluationsOf first last i) (topOf ss i) (rowAt i .recovers) (setOf (settingOf ss i) i ws))
-        (λ i h.
-        (unseen-length (evaluationsOf first last i) (topOf ss i) (rowAt i .recovers) (setOf (settingOf ss i) i ws) (length-tabulate (suc (topOf ss i)) (at (ruleWords ws i))),
-        unseen-some (evaluationsOf first last i) (topOf ss i) (rowAt i .recovers) (setOf (settingOf ss i) i ws) (some-state i h))))
+        (λ i h. (
+          unseen-length (evaluationsOf first last i) (topOf ss i) (rowAt i .recovers) (setOf (settingOf ss i) i ws) (length-tabulate (suc (topOf ss i)) (at (ruleWords ws i))),
+          unseen-some (evaluationsOf first last i) (topOf ss i) (rowAt i .recovers) (setOf (settingOf ss i) i ws) (some-state i h),
+        )))
