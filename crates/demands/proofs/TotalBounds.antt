@@ -53,11 +53,11 @@ unfolding samplesFrom
 currents n s zero at = tt
 currents n s (suc k) at = (signed-fits (u16At s (at + 4)), currents n s k (at + sampleWidth n))
 
-in-most : (z : ℤ) → I16 z → inward z ≤ 32768
+pub in-most : (z : ℤ) → I16 z → inward z ≤ 32768
 in-most (pos k) h = omega arith
 in-most (negsuc k) h = omega arith
 
-out-most : (z : ℤ) → I16 z → outward z ≤ 32768
+pub out-most : (z : ℤ) → I16 z → outward z ≤ 32768
 out-most (pos k) h = omega arith
 out-most (negsuc k) h = omega arith
 

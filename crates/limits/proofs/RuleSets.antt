@@ -1,13 +1,13 @@
 -- A rule set, checked rule by rule.
-use Prim.Native.Nat.{ℕ, suc, _+_, _-_, _*_, _≤_, _<_}
-use mathlib.Core.Path.{_≡_, refl, sym, _∙_}
+use Prim.Native.Nat.{ℕ, zero, suc, _+_, _-_, _*_, _≤_, _<_}
+use mathlib.Core.Path.{_≡_, refl, ap, ap₂, sym, _∙_}
 use mathlib.Core.Bool.{Bool, true, false, cond, _&&_, _||_}
-use mathlib.Core.List.{List, _∷_, _++_, append-nil}
+use mathlib.Core.List.{List, [], _∷_, map, _++_, append-nil}
 use native.Mathlib.Numerals.{add-one}
 use native.Mathlib.Omega.{arith}
 use lib.IntN.{ℤ, pos, negsuc}
 use lib.Dec.{eqb, leb}
-use lib.ListN.{length, take, set, length-set}
+use lib.ListN.{length, length-map, getD, take, set, length-set}
 use lib.Seq.{take-suc-set, take-all, append-snoc}
 use mir.Syntax.{w32}
 use mir.Val.{toZ, ofZ, SFits}
@@ -51,6 +51,11 @@ unfolding limits
 limits-are n row {k} {t = t} {r} some low f g ft fr el eh e =
     rw (ne-eqb k 0 some, le-leb k 255 low, ← within-any (row .recovers) (row .side) (least (row .quantity)) (most (row .quantity) n) t r k, ← el, ← eh)
     (rw (toZ-ofZ {w = w32} f, toZ-ofZ {w = w32} g, toZ-ofZ {w = w32} ft, toZ-ofZ {w = w32} fr) at e)
+
+-- The test of a setting that the code holds.
+pub held-limits : (n : ℕ) (row : Row) (s : Setting) {b : Bool} → SFits w32 (s .threshold) → SFits w32 (s .recovery)
+    → b ≡ limits n row (record { threshold = toZ w32 (ofZ w32 (s .threshold)); recovery = toZ w32 (ofZ w32 (s .recovery)); time = s .time }) → b ≡ limits n row s
+held-limits n row s ft fr e = rw (toZ-ofZ {w = w32} ft, toZ-ofZ {w = w32} fr) at e
 
 small : (k : ℕ) (b : Bool) → (eqb k 0 || leb k 255 && b) ≡ true → k ≤ 255
 small k b e = go (leb k 255) refl
@@ -103,21 +108,39 @@ tabulate-next m i f h = let e : m - i ≡ suc (m - suc i) = omega arith in rw e
 abbrev pub answered : ℕ → ℕ → (ℕ → Setting) → Answer (Unit {0})
 answered n m f = limitsAnswer n (tabulateFrom 0 m rowAt) (tabulateFrom 0 m f) 0
 
--- The first i of m settings are kept, and the answer is what the others answer.
-pub record Checking (n m : ℕ) (f : ℕ → Setting) (of : List Setting) (i : ℕ) : Type 0 where
+-- The first i of m settings are within their limits, and the answer is what the others answer.
+pub record Passed (n m : ℕ) (f : ℕ → Setting) (i : ℕ) : Type 0 where
   pub low : i ≤ m
-  pub long : length of ≡ m
-  pub kept : take i of ++ tabulateFrom i (m - i) f ≡ tabulateFrom 0 m f
   pub left : answered n m f ≡ limitsAnswer n (tabulateFrom i (m - i) rowAt) (tabulateFrom i (m - i) f) i
 
-pub start : {n m : ℕ} {f : ℕ → Setting} {of : List Setting} → length of ≡ m → Checking n m f of 0
-start {m = m} h = let e : m - 0 ≡ m = omega arith in record { low = omega arith; long = h; kept = rw e; left = rw e }
+module _ {n m : ℕ} {f : ℕ → Setting} where
+  pub passed-start : Passed n m f 0
+  passed-start = let e : m - 0 ≡ m = omega arith in record { low = omega arith; left = rw e }
 
-turn : {n m : ℕ} {f : ℕ → Setting} {of : List Setting} {i : ℕ} → Checking n m f of i → i < m
-    → answered n m f
-    ≡ cond (limits n (rowAt i) (f i)) (limitsAnswer n (tabulateFrom (suc i) (m - suc i) rowAt) (tabulateFrom (suc i) (m - suc i) f) (suc i)) (refused 7 i)
-unfolding limitsAnswer
-turn {m = m} {f} {i = i} c h = rw (tabulate-next m i rowAt h, tabulate-next m i f h) at (c .left)
+  turn : {i : ℕ} → Passed n m f i → i < m
+      → answered n m f
+      ≡ cond (limits n (rowAt i) (f i)) (limitsAnswer n (tabulateFrom (suc i) (m - suc i) rowAt) (tabulateFrom (suc i) (m - suc i) f) (suc i)) (refused 7 i)
+  unfolding limitsAnswer
+  turn {i} c h = rw (tabulate-next m i rowAt h, tabulate-next m i f h) at (c .left)
+
+  pub passed-next : {i : ℕ} → Passed n m f i → i < m → limits n (rowAt i) (f i) ≡ true → Passed n m f (i + 1)
+  passed-next c h held = record { low = omega arith; left = rw add-one (rw held at (turn c h)) }
+
+  pub passed-stop : {i : ℕ} → Passed n m f i → i < m → limits n (rowAt i) (f i) ≡ false → answered n m f ≡ refused 7 i
+  passed-stop c h e = rw e at (turn c h)
+
+  pub passed-end : {i : ℕ} → Passed n m f i → m ≤ i → answered n m f ≡ answer tt
+  unfolding limitsAnswer
+  passed-end {i} c h = let none : m - i ≡ 0 = omega arith in rw none at (c .left)
+
+-- They are kept as well.
+pub record Checking (n m : ℕ) (f : ℕ → Setting) (of : List Setting) (i : ℕ) : Type 0 where
+  pub passed : Passed n m f i
+  pub long : length of ≡ m
+  pub kept : take i of ++ tabulateFrom i (m - i) f ≡ tabulateFrom 0 m f
+
+pub start : {n m : ℕ} {f : ℕ → Setting} {of : List Setting} → length of ≡ m → Checking n m f of 0
+start {m = m} h = let e : m - 0 ≡ m = omega arith in record { passed = passed-start; long = h; kept = rw e }
 
 pub next : {n m : ℕ} {f : ℕ → Setting} {of : List Setting} {i : ℕ} {r : Checked} {s : Setting} → Checking n m f of i → i < m
     → r ≡ checked n (rowAt i) (f i) → r ≡ Accepted s → Checking n m f (set of i s) (i + 1)
@@ -125,24 +148,55 @@ next {n} {m} {f} {of} {i} {s = s} c h e q =
     let (held, same) = accepted n (rowAt i) (f i) e q in
     let room : i < length of = omega (arith, c .long) in
     record {
-      low = omega arith;
+      passed = passed-next (c .passed) h held;
       long = length-set of i s ∙ c .long;
       kept = rw (add-one, take-suc-set of i s room, same, append-snoc) (rw (tabulate-next m i f h) at (c .kept));
-      left = rw add-one (rw held at (turn c h));
     }
 
 pub stop : {n m : ℕ} {f : ℕ → Setting} {of : List Setting} {i : ℕ} {r : Checked} → Checking n m f of i → i < m
     → r ≡ checked n (rowAt i) (f i) → r ≡ Beyond → answered n m f ≡ refused 7 i
-stop {n} {f = f} {i = i} c h e q = rw (beyond n (rowAt i) (f i) e q) at (turn c h)
+stop {n} {f = f} {i = i} c h e q = passed-stop (c .passed) h (beyond n (rowAt i) (f i) e q)
 
 pub end : {n m : ℕ} {f : ℕ → Setting} {of : List Setting} {i : ℕ} → Checking n m f of i → m ≤ i
     → (answer tt ≡ answered n m f) × (of ≡ settingsIf (answered n m f) (tabulateFrom 0 m f))
-unfolding limitsAnswer
 end {m = m} {f} {of} {i} c h =
     let none : m - i ≡ 0 = omega arith in
-    let e = rw none at (c .left) in
+    let e = passed-end (c .passed) h in
     let k = rw (none, append-nil, take-all i of (omega (arith, c .long))) at (c .kept) in
     (sym e, rw e k)
+
+-- The length of an array in a struct, as it is handed.
+pub long : (X Y : Type 0) (g : X → Y) (l : List X) (n : ℕ) → length (map g l) ≡ n → length l ≡ n
+long X Y g l n e = sym (length-map l g) ∙ e
+
+-- The settings of a list by their numbers.
+abbrev pub numbered : List Setting → ℕ → Setting
+numbered ss i = getD ss i off
+
+listed : (ss : List Setting) (i : ℕ) (f : ℕ → Setting) → ((j : ℕ) → f (i + j) ≡ getD ss j off) → tabulateFrom i (length ss) f ≡ ss
+listed [] i f e = refl
+listed (s ∷ ss) i f e =
+    let z : i ≡ i + 0 = omega arith in
+    ap₂ _∷_ (ap f z ∙ e 0) (listed ss (suc i) f (λ j. let q : suc i + j ≡ i + suc j = omega arith in ap f q ∙ e (suc j)))
+
+-- The check of a list of m settings is that of its settings by their numbers.
+pub listed-answer : (n m : ℕ) (ss : List Setting) → length ss ≡ m → answered n m (numbered ss) ≡ limitsAnswer n (tabulateFrom 0 m rowAt) ss 0
+listed-answer n m ss l =
+    ap (λ (xs : List Setting). limitsAnswer n (tabulateFrom 0 m rowAt) xs 0)
+    (ap (λ (k : ℕ). tabulateFrom 0 k (numbered ss)) (sym l) ∙ listed ss 0 (numbered ss) (λ j. let z : 0 + j ≡ j = omega arith in ap (numbered ss) z))
+
+passes : (b : Bool) (i : ℕ) (a : Answer (Unit {0})) → cond b a (refused 7 i) ≡ answer tt → (b ≡ true) × (a ≡ answer tt)
+passes true i a h = (refl, h)
+passes false i a h = let z : _≡_ {A = ℕ} 0 1 = cc in absurd (omega arith)
+
+-- Each rule of settings that pass is within its limits.
+pub rule-within : (n : ℕ) (rs : List Row) (ss : List Setting) (i : ℕ) → limitsAnswer n rs ss i ≡ answer tt
+    → (j : ℕ) (r : Row) (s : Setting) → j < length rs → j < length ss → limits n (getD rs j r) (getD ss j s) ≡ true
+unfolding limitsAnswer
+rule-within n [] ss i h j r s a b = absurd (omega arith)
+rule-within n (r′ ∷ rs) [] i h j r s a b = absurd (omega arith)
+rule-within n (r′ ∷ rs) (s′ ∷ ss) i h zero r s a b = passes (limits n r′ s′) i _ h .0
+rule-within n (r′ ∷ rs) (s′ ∷ ss) i h (suc j) r s a b = rule-within n rs ss (suc i) (passes (limits n r′ s′) i _ h .1) j r s (omega arith) (omega arith)
 
 -- A refused rule set.
 pub refuses : {r : RuleSet} {why : Refusal} {a : Answer (Unit {0})} (ss : List Setting)

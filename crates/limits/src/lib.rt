@@ -1,4 +1,4 @@
-// The limits of a rule set lent as 160 bytes (paper 01, 'The sixteen rules').
+// The limits of a rule set, lent as 160 bytes or held as settings (paper 01, 'The sixteen rules').
 ghost use mathlib.Core.Path.{_≡_};
 ghost use mathlib.Core.Bool.{cond};
 ghost use Prim.Native.Nat.{_<_};
@@ -6,12 +6,14 @@ ghost use Rattle.rules.specs.Table.{rows, rowAt};
 ghost use Rattle.limits.specs.Limits.{limits, off, tabulateFrom, settingAt, settingsOf, settingsIf, limitsAnswer, answerOfLimits, rulesAnswer};
 
 mod rule;
+mod settings;
 
 use refusals::Refusal;
 use rule::accepts;
 use rules::Setting;
 use rules::Settings;
 use rules::row_at;
+pub use settings::check_settings;
 
 pub enum Limited {
     Within,

@@ -15,3 +15,5 @@ pub mod OneRule
 pub mod Gaps
 pub mod OffRules
 pub mod Tracking
+pub mod ValidWords
+pub mod KeptValid

@@ -9,6 +9,7 @@ mod reading;
 mod record;
 mod seen;
 mod unseen;
+mod validity;
 mod words;
 
 use flags::Flags;
@@ -22,6 +23,7 @@ pub use seen::see;
 pub use seen::see_rule;
 pub use unseen::evaluations_in;
 pub use unseen::miss;
+pub use validity::valid;
 
 // Five words a rule: state s of rule i is bit s of the words from 5 i on, the lowest first.
 pub struct States {

@@ -14,7 +14,7 @@ use Rattle.rules.specs.declared.Setting.{Setting}
 use Rattle.rules.specs.Table.{rows, rowAt}
 use Rattle.limits.specs.Limits.{off, limits, limitsAnswer, settingsOf}
 use Rattle.limits.specs.Limits as L
-use Rattle.limits.proofs.RuleSets.{time-small}
+use Rattle.limits.proofs.RuleSets.{time-small, rule-within}
 use Rattle.trace.specs.Records.{Hole, Reply, Stamped, sampleWidth}
 use Rattle.trace.specs.Sections.{andThen, headAnswer, rulesAnswer, sectionAnswer, walkAnswer, rulesPart}
 use Rattle.trace.specs.Coverage.{holesAnswer, coverAnswer, repliesAnswer}
@@ -75,15 +75,6 @@ idle-small s l h =
     rw (← j) (head-idle s a))))))
 
 -- The rules of an accepted rule set.
-limits-are : (n : ℕ) (rs : List Row) (ss : List Setting) (i : ℕ) → limitsAnswer n rs ss i ≡ answer tt
-    → (j : ℕ) (r : Row) (s : Setting) → j < length rs → j < length ss → limits n (getD rs j r) (getD ss j s) ≡ true
-unfolding limitsAnswer
-limits-are n [] ss i h j r s a b = absurd (omega arith)
-limits-are n (r′ ∷ rs) [] i h j r s a b = absurd (omega arith)
-limits-are n (r′ ∷ rs) (s′ ∷ ss) i h zero r s a b = where-true (limits n r′ s′) 7 i _ h .0
-limits-are n (r′ ∷ rs) (s′ ∷ ss) i h (suc j) r s a b =
-    limits-are n rs ss (suc i) (where-true (limits n r′ s′) 7 i _ h .1) j r s (omega arith) (omega arith)
-
 rules-sound : (n idle : ℕ) (bytes : List ℕ) → L.rulesAnswer n bytes ≡ answer tt → idle ≤ 32766 → SoundPack (record { cells = n; idle = idle; settings = settingsOf bytes })
 unfolding L.rulesAnswer
 rules-sound n idle bytes h k i l =
@@ -94,7 +85,7 @@ rules-sound n idle bytes h k i l =
       leastCells = leb-true 3 n (b .0);
       mostCells = leb-true n 12 (b .1);
       idle = k;
-      numbers = subst T (sym (limits-are n rows (settingsOf bytes) 0 (c .1) i _ _ l l)) tt;
+      numbers = subst T (sym (rule-within n rows (settingsOf bytes) 0 (c .1) i _ _ l l)) tt;
     }
 
 -- Records that are accepted.

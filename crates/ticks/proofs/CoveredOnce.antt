@@ -51,7 +51,7 @@ none hs (x ∷ xs) e (sample a b c p) t l =
     (rw (ne-eqb (x .tick) t (λ z. omega arith)) f, g)
 
 -- A total over ticks that all count the same.
-total-run : (g : ℕ → ℕ) (c a b : ℕ) → a ≤ b → ((t : ℕ) → a ≤ t → t < b → g t ≡ c) → total g b ≡ total g a + (b - a) * c
+pub total-run : (g : ℕ → ℕ) (c a b : ℕ) → a ≤ b → ((t : ℕ) → a ≤ t → t < b → g t ≡ c) → total g b ≡ total g a + (b - a) * c
 unfolding total
 total-run g c a zero h f = let z : a ≡ 0 = omega arith in rw z (omega arith)
 total-run g c a (suc b) h f =
@@ -65,10 +65,10 @@ total-run g c a (suc b) h f =
 
 module _ (all : List Stamped) where
   -- From a tick on only the samples left show.
-  abbrev Same : List Stamped → ℕ → Type 0
+  abbrev pub Same : List Stamped → ℕ → Type 0
   Same xs e = (t : ℕ) → e ≤ t → shownIn all t ≡ shownIn xs t
 
-  same-later : (x : Stamped) (xs : List Stamped) (e : ℕ) → x .tick ≡ e → Same (x ∷ xs) e → Same xs (suc e)
+  pub same-later : (x : Stamped) (xs : List Stamped) (e : ℕ) → x .tick ≡ e → Same (x ∷ xs) e → Same xs (suc e)
   same-later x xs e a s t l = s t (omega arith) ∙ shown-later x xs t (λ z. omega arith)
 
   abbrev chargeAt : (ℤ → ℕ) → ℕ → ℕ

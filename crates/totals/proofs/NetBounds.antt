@@ -1,15 +1,18 @@
 -- The sums of a net charge and its bounds in 64 bits.
 use Prim.Native.Nat.{ℕ, zero, suc, _+_, _-_, _*_, _≤_}
 use mathlib.Core.Path.{_≡_, ap₂}
-use mathlib.Core.Bool.{Bool, true, false, cond}
+use mathlib.Core.Bool.{Bool, true, false, cond, _&&_}
 use native.Mathlib.Nat.{mul-le-mul}
 use native.Mathlib.Omega.{arith}
 use lib.Dec.{T, ltb, leb, leb→le}
 use lib.IntN.{ℤ, pos, negsuc, negℤ, subℕ, _+ℤ_, _-ℤ_}
 use lib.Signed.{mag}
+use borrow.Author.Tests.{leb-true}
 use mir.Syntax.{w64}
 use mir.Val.{SFits, toZ, ofZ}
 use mir.ValLaws.{toZ-ofZ, toZ-pos}
+use Rattle.ticks.proofs.Tests.{and-true}
+use Rattle.totals.specs.Totals.{countable}
 
 mag-subℕ : (a b : ℕ) → mag (subℕ a b) ≤ a + b
 mag-subℕ a b = go (ltb a b)
@@ -42,7 +45,7 @@ exact z y e f = rw e (record { fits = f; reads = toZ-ofZ w64 y f })
 read-nat : (n : ℕ) → n ≤ 32768 * 4294967295 → toZ w64 n ≡ pos n
 read-nat n h = toZ-pos w64 n (omega arith)
 
-module _ {charge-in charge-out unseen : ℕ} (b : (charge-in ≤ 65535 * 32768) × (charge-out ≤ 65535 * 32768) × (unseen ≤ 4294967295)) where
+module _ {charge-in charge-out unseen : ℕ} (b : (charge-in ≤ 32768 * 4294967295) × (charge-out ≤ 32768 * 4294967295) × (unseen ≤ 4294967295)) where
   pub sure-exact : Exact (toZ w64 charge-in -ℤ toZ w64 charge-out) (pos charge-in -ℤ pos charge-out)
   sure-exact =
       exact _ _ (ap₂ (λ x y. x -ℤ y) (read-nat charge-in (omega (arith, b .0))) (read-nat charge-out (omega (arith, b .1))))
@@ -62,3 +65,10 @@ module _ {charge-in charge-out unseen : ℕ} (b : (charge-in ≤ 65535 * 32768) 
     more-exact =
         exact _ _ (ap₂ (λ x y. x +ℤ y) (sure-exact .reads) (read-nat (k * unseen) times-small))
         (record { sfits = omega (arith, mag-sub (pos charge-in) charge-out, mag-add (pos charge-in -ℤ pos charge-out) (pos (k * unseen)), times-small, b .0, b .1) })
+
+-- What totals that a number of ticks can give are at most.
+pub counted : (i o u ticks : ℕ) → countable i o u ticks ≡ true → (i ≤ 32768 * ticks) × (o ≤ 32768 * ticks) × (u ≤ ticks)
+counted i o u ticks e =
+    let (p, q) = and-true (leb i (32768 * ticks) && leb o (32768 * ticks)) (leb u ticks) e in
+    let (a, b) = and-true (leb i (32768 * ticks)) (leb o (32768 * ticks)) p in
+    (leb-true i (32768 * ticks) a, leb-true o (32768 * ticks) b, leb-true u ticks q)

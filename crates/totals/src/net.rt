@@ -1,19 +1,21 @@
-// The bounds of the net charge of an accepted trace.
+// The bounds of a net charge, from totals and of an accepted trace.
 ghost use mathlib.Core.Path.{_≡_};
 ghost use Prim.Native.Nat.{_*_, _≤_};
 ghost use lib.IntN.{pos, _+ℤ_, _-ℤ_};
 ghost use Rattle.refusals.specs.Refusals.{answer};
 ghost use Rattle.trace.specs.Sections.{walkAnswer, replyCount};
 ghost use Rattle.trace.specs.Acceptance.{Whole, acceptAnswer};
-ghost use Rattle.totals.specs.Totals.{netAnswer, answerOfNet};
+ghost use Rattle.totals.specs.Totals.{countable, netOf, netAnswer, answerOfNet};
 use crate::NetCharge;
 use crate::count_unseen;
 use crate::sum_charge;
+use refusals::Refusal;
+use rules::and;
 use trace::Layout;
 
-// The bounds from the charge of at most 65,535 samples and from at most 4,294,967,295 unseen ticks.
+// The bounds from the charge and the unseen ones of at most 4,294,967,295 ticks.
 fn bounds(charge_in: u64, charge_out: u64, unseen: u64) -> NetCharge
-    requires { ⌜ («charge_in» ≤ 65535 * 32768) × («charge_out» ≤ 65535 * 32768) × (unseen ≤ 4294967295) ⌝ }
+    requires { ⌜ («charge_in» ≤ 32768 * 4294967295) × («charge_out» ≤ 32768 * 4294967295) × (unseen ≤ 4294967295) ⌝ }
     ensures { λ r. ⌜ r ≡ NetCharge.Between (pos «charge_in» -ℤ pos «charge_out» -ℤ pos (32768 * unseen)) (pos «charge_in» -ℤ pos «charge_out» +ℤ pos (32767 * unseen)) ⌝ }
 {
     let sure = charge_in as i64 - charge_out as i64;
@@ -21,6 +23,24 @@ fn bounds(charge_in: u64, charge_out: u64, unseen: u64) -> NetCharge
         least: sure - (32768 * unseen) as i64,
         greatest: sure + (32767 * unseen) as i64,
     }
+}
+
+// Whether a number of ticks can give these totals.
+pub fn can_count(charge_in: u64, charge_out: u64, unseen: u32, ticks: u32) -> bool
+    ensures { λ r. ⌜ r ≡ countable «charge_in» «charge_out» unseen ticks ⌝ }
+{
+    let most = 32768 * (ticks as u64);
+    and(and(charge_in <= most, charge_out <= most), unseen <= ticks)
+}
+
+// The bounds from totals that a caller holds; refusal 16 for totals that no such number of ticks gives.
+pub fn net_of_totals(charge_in: u64, charge_out: u64, unseen: u32, ticks: u32) -> NetCharge
+    ensures { λ r. ⌜ answerOfNet r ≡ netOf «charge_in» «charge_out» unseen ticks ⌝ }
+{
+    if can_count(charge_in, charge_out, unseen, ticks) {
+        return bounds(charge_in, charge_out, unseen as u64);
+    }
+    NetCharge::Refused(Refusal::State)
 }
 
 // The bounds of an accepted trace with its layout.

@@ -10,13 +10,15 @@ pub(crate) fn few(count: usize) -> usize
     if count < 65535 { count } else { 65535 }
 }
 
-pub(crate) fn inward_of(current: i16) -> u64
+// What a current charges, in a second.
+pub fn inward_of(current: i16) -> u64
     ensures { λ r. ⌜ (r ≡ inward current) × (r ≤ 32768) ⌝ }
 {
     if 0 <= current { current as u64 } else { 0 }
 }
 
-pub(crate) fn outward_of(current: i16) -> u64
+// What a current discharges, in a second.
+pub fn outward_of(current: i16) -> u64
     ensures { λ r. ⌜ (r ≡ outward current) × (r ≤ 32768) ⌝ }
 {
     if 0 <= current {

@@ -38,7 +38,7 @@ sum-charge-requires c κs = search needs
 bounds-requires : tie.Need-bounds-requires
 bounds-requires c κs =
     let t = totals (c .before .before .before .before) in
-    (rw (c .sum-charge .ensures .0) (t .small-in), rw (c .sum-charge .ensures .1) (t .small-out), rw (c .before .before .count-unseen .ensures) (t .small-unseen))
+    (omega (arith, c .sum-charge .ensures .0, t .small-in), omega (arith, c .sum-charge .ensures .1, t .small-out), rw (c .before .before .count-unseen .ensures) (t .small-unseen))
 
 returns : tie.Need-returns
 returns c =

@@ -3,8 +3,8 @@ use mathlib.Core.Path.{_≡_, refl, sym, _∙_}
 use native.Mathlib.Omega.{arith}
 use lib.ListN.{length, length-set}
 use borrow.Author.Needs.{needs}
-use Rattle.judge_trace.proofs.write_report.Statement.{statement}
-use Rattle.judge_trace.proofs.write_report.Tie as tie
+use Rattle.lines.proofs.write_report.Statement.{statement}
+use Rattle.lines.proofs.write_report.Tie as tie
 
 abbrev Inv-loop : tie.InvT-loop
 Inv-loop report text₀ i₀ text i = (length text ≡ 375) × (i ≤ 187)

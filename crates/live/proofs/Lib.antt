@@ -1,0 +1,4 @@
+pub mod GoodStates
+pub mod Stepping
+pub mod StaysGood
+pub mod FedTrace

@@ -1,0 +1,120 @@
+-- A state that a call answers is a good one.
+use Prim.Native.Nat.{ℕ, suc, _+_, _-_, _*_, _≤_, _<_}
+use mathlib.Core.Path.{_≡_, refl, sym, _∙_, subst}
+use mathlib.Core.Bool.{Bool, true, cond, _&&_}
+use mathlib.Core.List.{List}
+use native.Mathlib.Omega.{arith}
+use lib.Dec.{T, leb, eqb}
+use lib.ListN.{length}
+use borrow.Author.Tests.{leb-true}
+use Rattle.refusals.specs.Refusals.{Answer, answer, refused}
+use Rattle.rules.specs.Table.{rows}
+use Rattle.rules.specs.Samples.{Sample, I16, readingsOf}
+use Rattle.limits.specs.Limits.{off, tabulateFrom, settingsOf, limits, limitsAnswer}
+use Rattle.trace.proofs.Answers.{where-true}
+use Rattle.fillings.proofs.Bools.{is-true}
+use Rattle.states.proofs.KeptValid.{fresh-valid, seen-valid, unseen-valid}
+use Rattle.demands.proofs.TotalBounds.{in-most, out-most}
+use Rattle.ticks.proofs.Tests.{and-true}
+use Rattle.live.specs.declared.Live.{Live}
+use Rattle.live.specs.State.{passes, good, begun, withSample, withHole}
+use Rattle.live.specs.Calls.{orKept, beginAnswer, sampleAnswer, holeAnswer}
+use Rattle.live.specs.Promises.{StaysGood}
+use Rattle.live.proofs.GoodStates.{GoodState, parts, whole, short, counted, counts}
+
+holds : (s : Live) → GoodState s → T (good s)
+holds s g = subst T (sym (whole s g)) tt
+
+taken-apart : (s : Live) → T (good s) → GoodState s
+taken-apart s t = parts s (is-true (good s) t)
+
+-- A state begun within the limits.
+pub begun-good : (n idle : ℕ) (bytes : List ℕ) → beginAnswer n idle bytes ≡ answer tt → T (good (begun n idle (settingsOf bytes)))
+unfolding beginAnswer
+begun-good n idle bytes h =
+    let a = where-true (leb 3 n && leb n 12) 3 0 _ h in
+    let b = where-true (leb idle 32766) 4 0 _ (a .1) in
+    let c = where-true (eqb (length bytes) 160) 6 0 _ (b .1) in
+    holds (begun n idle (settingsOf bytes))
+    (record {
+      cells = a .0;
+      idle = b .0;
+      rules = rw (c .1);
+      states = is-true _ (fresh-valid (settingsOf bytes));
+      counts = refl;
+    })
+
+-- The state of a refused beginning.
+off-good : T (good (begun 3 0 (tabulateFrom 0 16 (λ i. off))))
+unfolding limitsAnswer limits
+off-good =
+    holds (begun 3 0 (tabulateFrom 0 16 (λ i. off)))
+    (record { cells = refl; idle = refl; rules = refl; states = is-true _ (fresh-valid (tabulateFrom 0 16 (λ i. off))); counts = refl })
+
+-- After a sample, and after a hole.
+seen-good : (s : Live) (x : Sample) → I16 (x .current) → T (good s) → T (good (withSample s x))
+unfolding withSample
+seen-good s x i t =
+    let g = taken-apart s t in
+    let c = counted (s .totals) (g .counts) in
+    let a = in-most (x .current) i in
+    let b = out-most (x .current) i in
+    let l = c .inwards in
+    let m = c .outwards in
+    let n = c .unseen in
+    holds (withSample s x)
+    (record {
+      cells = g .cells;
+      idle = g .idle;
+      rules = g .rules;
+      states = is-true _ (seen-valid (s .settings .of) (s .states .words) (subst T (sym (g .states)) tt) (short s g) (s .idle) (s .totals .ticks) (readingsOf x));
+      counts = counts (withSample s x .totals) (record { inwards = omega arith; outwards = omega arith; unseen = omega arith });
+    })
+
+unseen-good : (s : Live) (last : ℕ) → s .totals .ticks ≤ last → T (good s) → T (good (withHole s last))
+unfolding withHole
+unseen-good s last h t =
+    let g = taken-apart s t in
+    let c = counted (s .totals) (g .counts) in
+    let l = c .inwards in
+    let m = c .outwards in
+    let n = c .unseen in
+    holds (withHole s last)
+    (record {
+      cells = g .cells;
+      idle = g .idle;
+      rules = g .rules;
+      states = is-true _ (unseen-valid (s .settings .of) (s .states .words) (subst T (sym (g .states)) tt) (short s g) (s .totals .ticks) last);
+      counts = counts (withHole s last .totals) (record { inwards = omega arith; outwards = omega arith; unseen = omega arith });
+    })
+
+hole-forward : (s : Live) (last : ℕ) → holeAnswer s last ≡ answer tt → s .totals .ticks ≤ last
+unfolding holeAnswer
+hole-forward s last h =
+    let a = where-true (good s) 16 0 _ h in
+    let b = where-true (leb (s .totals .ticks) last && _) 8 (s .totals .ticks) _ (a .1) in
+    leb-true (s .totals .ticks) last (and-true (leb (s .totals .ticks) last) _ (b .0) .0)
+
+pub stays-good : StaysGood
+stays-good = record { begins = begins; sees = sees; misses = misses }
+  where
+    begins : (n idle : ℕ) (bytes : List ℕ) → T (good (orKept (beginAnswer n idle bytes) (begun n idle (settingsOf bytes)) (begun 3 0 (tabulateFrom 0 16 (λ i. off)))))
+    begins n idle bytes = go (beginAnswer n idle bytes) refl
+      where
+        go : (a : Answer (Unit {0})) → beginAnswer n idle bytes ≡ a → T (good (orKept a (begun n idle (settingsOf bytes)) (begun 3 0 (tabulateFrom 0 16 (λ i. off)))))
+        go (answer tt) e = begun-good n idle bytes e
+        go (refused k p) e = off-good
+
+    sees : (s : Live) (tick : ℕ) (x : Sample) → I16 (x .current) → T (good s) → T (good (orKept (sampleAnswer s tick x) (withSample s x) s))
+    sees s tick x i t = go (sampleAnswer s tick x)
+      where
+        go : (a : Answer (Unit {0})) → T (good (orKept a (withSample s x) s))
+        go (answer tt) = seen-good s x i t
+        go (refused k p) = t
+
+    misses : (s : Live) (last : ℕ) → T (good s) → T (good (orKept (holeAnswer s last) (withHole s last) s))
+    misses s last t = go (holeAnswer s last) refl
+      where
+        go : (a : Answer (Unit {0})) → holeAnswer s last ≡ a → T (good (orKept a (withHole s last) s))
+        go (answer tt) e = unseen-good s last (hole-forward s last e) t
+        go (refused k p) e = t

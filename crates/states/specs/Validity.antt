@@ -1,0 +1,26 @@
+-- Paper 01, refusal 16: which records of words are records of possible states.
+use Prim.Native.Nat.{ℕ, zero, suc}
+use mathlib.Core.Bool.{Bool, true, not, _&&_}
+use mathlib.Core.List.{List}
+use lib.Dec.{ltb, eqb}
+use lib.ListN.{length}
+use Rattle.rules.specs.declared.Setting.{Setting}
+use Rattle.rules.specs.Evaluation.{top}
+use Rattle.fillings.specs.PossibleStates.{someBelow}
+use Rattle.states.specs.Records.{at, ruleWords}
+use Rattle.states.specs.Steps.{settingOf}
+
+-- Whether a test holds of every number below n.
+abbrev pub everyBelow : ℕ → (ℕ → Bool) → Bool
+everyBelow zero f = true
+everyBelow (suc n) f = f 0 && everyBelow n (λ i. f (suc i))
+
+-- Of rule i a state from 0 to the top is possible, and none above the top.
+abbrev pub validSet : Setting → ℕ → List ℕ → Bool
+validSet s i ws =
+    someBelow (suc (top (s .time))) (at (ruleWords ws i))
+    && not (someBelow 320 (λ p. ltb (top (s .time)) p && at (ruleWords ws i) p))
+
+-- Eighty words that are so for every rule.
+unfoldable pub validRecord : List Setting → List ℕ → Bool
+validRecord ss ws = eqb (length ws) 80 && everyBelow 16 (λ i. validSet (settingOf ss i) i ws)
