@@ -1,0 +1,17 @@
+// A reader that keeps the trace it was lent and a place in it (paper 01, 'The form for each place'): thin over the walk
+// `trace::next_record`, which takes both as parameters.
+ghost use mathlib.Core.Path.{_≡_};
+ghost use Rattle.trace.specs.Next.{nextAnswer, answerOfNext, placeAfter};
+use trace::Next;
+
+pub struct Reader<'a> {
+    pub trace: &'a [u8],
+    pub at: usize,
+}
+
+// A reader at the beginning of a trace.
+pub fn open<'a>(trace: &'a [u8]) -> Reader<'a>
+    ensures { λ r. ⌜ (r .trace ≡ trace .entry) × (r .at ≡ 0) ⌝ }
+{
+    Reader { trace, at: 0 }
+}
