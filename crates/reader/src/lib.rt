@@ -15,3 +15,10 @@ pub fn open<'a>(trace: &'a [u8]) -> Reader<'a>
 {
     Reader { trace, at: 0 }
 }
+
+// What stands next.
+pub fn peek<'a>(r: Reader<'a>) -> Next
+    ensures { λ n. ⌜ answerOfNext n ≡ nextAnswer (now (r .entry .trace)) (r .entry .at) ⌝ }
+{
+    trace::next_record(r.trace, r.at)
+}
