@@ -12,6 +12,8 @@ mod sections;
 pub use next::Kind;
 pub use next::Next;
 pub use next::Record;
+pub use next::Step;
+pub use next::advance;
 pub use next::next_record;
 use order::accept_layout;
 use order::refuse;
