@@ -22,3 +22,12 @@ pub fn peek<'a>(r: Reader<'a>) -> Next
 {
     trace::next_record(r.trace, r.at)
 }
+
+// Hands out what stands next, and moves on to the place after it.
+pub fn next<'s, 'a>(r: &'s mut Reader<'a>) -> Next
+    ensures { λ n. ⌜ (answerOfNext n ≡ nextAnswer (now (now (r .entry) .trace)) (now (r .entry) .at)) × (now (r .exit) .trace ≡ now (r .entry) .trace) × (now (r .exit) .at ≡ placeAfter (nextAnswer (now (now (r .entry) .trace)) (now (r .entry) .at)) (now (r .entry) .at)) ⌝ }
+{
+    let step = trace::advance(r.trace, r.at);
+    r.at = step.at;
+    step.next
+}
