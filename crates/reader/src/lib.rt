@@ -3,6 +3,7 @@
 ghost use mathlib.Core.Path.{_≡_};
 ghost use Rattle.trace.specs.Next.{nextAnswer, answerOfNext, placeAfter};
 use trace::Next;
+use trace::Step;
 
 pub struct Reader<'a> {
     pub trace: &'a [u8],
@@ -16,13 +17,6 @@ pub fn open<'a>(trace: &'a [u8]) -> Reader<'a>
     Reader { trace, at: 0 }
 }
 
-// What stands next.
-pub fn peek<'a>(r: Reader<'a>) -> Next
-    ensures { λ n. ⌜ answerOfNext n ≡ nextAnswer (now (r .entry .trace)) (r .entry .at) ⌝ }
-{
-    trace::next_record(r.trace, r.at)
-}
-
 // Hands out what stands next, and moves on to the place after it.
 pub fn next<'s, 'a>(r: &'s mut Reader<'a>) -> Next
     ensures { λ n. ⌜ (answerOfNext n ≡ nextAnswer (now (now (r .entry) .trace)) (now (r .entry) .at)) × (now (r .exit) .trace ≡ now (r .entry) .trace) × (now (r .exit) .at ≡ placeAfter (nextAnswer (now (now (r .entry) .trace)) (now (r .entry) .at)) (now (r .entry) .at)) ⌝ }
@@ -30,4 +24,13 @@ pub fn next<'s, 'a>(r: &'s mut Reader<'a>) -> Next
     let step = trace::advance(r.trace, r.at);
     r.at = step.at;
     step.next
+}
+
+// What stands next from a place of a trace on, and the place after it: one step of a reader that stands there.
+pub fn read_from(trace: &[u8], at: usize) -> Step
+    ensures { λ r. ⌜ (answerOfNext (r .next) ≡ nextAnswer (now (trace .entry)) at) × (r .at ≡ placeAfter (nextAnswer (now (trace .entry)) at) at) ⌝ }
+{
+    let mut r = Reader { trace, at };
+    let next = next(&mut r);
+    Step { next, at: r.at }
 }
