@@ -1,5 +1,5 @@
 // A reader that keeps the trace it was lent and a place in it (paper 01, 'The form for each place'): thin over the walk
-// `trace::next_record`, which takes both as parameters.
+// `trace::advance`, which takes both as parameters.
 ghost use mathlib.Core.Path.{_≡_};
 ghost use Rattle.trace.specs.Next.{nextAnswer, answerOfNext, placeAfter};
 use trace::Next;
