@@ -1,6 +1,7 @@
 pub mod Answers
 pub mod Layouts
 pub mod Walks
+pub mod Nexts
 pub mod HoleTurns
 pub mod ReplyTurns
 pub mod CoverTurns

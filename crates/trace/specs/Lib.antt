@@ -3,3 +3,4 @@ pub mod Sections
 pub mod Coverage
 pub mod Acceptance
 pub mod Checks
+pub mod Next

@@ -4,10 +4,17 @@ ghost use Rattle.trace.specs.Sections.{walkAnswer, answerOfWalk, replyCo
 ghost use Rattle.trace.specs.Acceptance.{acceptAnswer, answerOfAccept, ticksOf, layoutOf, settingsIn};
 
 mod coverage;
+mod next;
 mod order;
 mod replies;
 mod sections;
 
+pub use next::Kind;
+pub use next::Next;
+pub use next::Record;
+pub use next::Step;
+pub use next::advance;
+pub use next::next_record;
 use order::accept_layout;
 use order::refuse;
 use refusals::Refusal;
