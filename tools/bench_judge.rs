@@ -10,7 +10,7 @@ use std::time::Instant;
 use trace_bytes::{seal, Sample, Trace};
 
 extern "C" {
-    fn judge_bench(
+    fn buttmitrel_judge(
         trace: *const u8,
         trace_len: usize,
         report: *mut u8,
@@ -25,7 +25,7 @@ const CELLS: u8 = 12;
 // 0 for accepted, else the refusal's number and place.
 fn proved(trace: &[u8], report: &mut [u8], verdicts: &mut [u8]) -> u64 {
     let (r, v) = (report.as_mut_ptr(), verdicts.as_mut_ptr());
-    unsafe { judge_bench(trace.as_ptr(), trace.len(), r, report.len(), v, verdicts.len()) }
+    unsafe { buttmitrel_judge(trace.as_ptr(), trace.len(), r, report.len(), v, verdicts.len()) }
 }
 
 #[inline(never)]
