@@ -10,22 +10,24 @@ use Rattle.rules.specs.Samples.{Sample, readingsOf}
 use Rattle.limits.specs.Limits.{limitsAnswer}
 use Rattle.fillings.specs.Charge.{inward, outward}
 use Rattle.report.specs.declared.Totals.{Totals}
+use Rattle.totals.specs.Totals.{countable}
 use Rattle.states.specs.Records.{fresh}
 use Rattle.states.specs.Steps.{afterSeen, afterUnseen}
 use Rattle.states.specs.Validity.{validRecord}
 use Rattle.live.specs.declared.Live.{Live}
 
--- The head and the rules of a state are within their limits.
+-- Whether a check passes.
 abbrev pub passes : {A : Type 0} → Answer A → Bool
 passes (answer a) = true
 passes (refused number place) = false
 
+-- The head and the rules of a state are within their limits.
 abbrev pub goodRules : Live → Bool
 goodRules s = leb 3 (s .cells) && leb (s .cells) 12 && leb (s .idle) 32766 && passes (limitsAnswer (s .cells) rows (s .settings .of) 0)
 
 -- In and out are at most 32,768 × ticks, unseen at most ticks.
 abbrev pub goodTotals : Totals → Bool
-goodTotals t = leb (t .«charge_in») (32768 * t .ticks) && leb (t .«charge_out») (32768 * t .ticks) && leb (t .unseen) (t .ticks)
+goodTotals t = countable (t .«charge_in») (t .«charge_out») (t .unseen) (t .ticks)
 
 -- A good state; any other is refusal 16.
 unfoldable pub good : Live → Bool

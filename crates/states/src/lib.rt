@@ -13,7 +13,6 @@ mod validity;
 mod words;
 
 use flags::Flags;
-pub use reading::allows;
 pub use reading::flags_in;
 pub use reading::gap;
 pub use reading::status_in;

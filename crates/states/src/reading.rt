@@ -68,7 +68,7 @@ pub fn status_in(words: &[u64], i: usize, setting: Setting) -> Flag
 }
 
 // Whether state s of rule i is possible, from the one word that holds it.
-pub fn allows(words: &[u64], i: usize, s: usize) -> bool
+fn allows(words: &[u64], i: usize, s: usize) -> bool
     ensures { λ r. ⌜ r ≡ allowed (now (words .entry)) i s ⌝ }
 {
     if words.len() != 80 {
