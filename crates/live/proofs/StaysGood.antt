@@ -13,14 +13,16 @@ use Rattle.rules.specs.Samples.{Sample, I16, readingsOf}
 use Rattle.limits.specs.Limits.{off, tabulateFrom, settingsOf, limits, limitsAnswer}
 use Rattle.trace.proofs.Answers.{where-true}
 use Rattle.fillings.proofs.Bools.{is-true}
+use Rattle.states.specs.Validity.{validRecord}
 use Rattle.states.proofs.KeptValid.{fresh-valid, seen-valid, unseen-valid}
+use Rattle.report.specs.declared.Totals.{Totals}
 use Rattle.demands.proofs.TotalBounds.{in-most, out-most}
 use Rattle.ticks.proofs.Tests.{and-true}
 use Rattle.live.specs.declared.Live.{Live}
 use Rattle.live.specs.State.{passes, good, begun, withSample, withHole}
 use Rattle.live.specs.Calls.{orKept, beginAnswer, sampleAnswer, holeAnswer}
 use Rattle.live.specs.Promises.{StaysGood}
-use Rattle.live.proofs.GoodStates.{GoodState, parts, whole, short, counted, counts}
+use Rattle.live.proofs.GoodStates.{GoodState, parts, whole, short, Counted, counted, counts}
 
 holds : (s : Live) → GoodState s → T (good s)
 holds s g = subst T (sym (whole s g)) tt
@@ -51,42 +53,37 @@ off-good =
     holds (begun 3 0 (tabulateFrom 0 16 (λ i. off)))
     (record { cells = refl; idle = refl; rules = refl; states = is-true _ (fresh-valid (tabulateFrom 0 16 (λ i. off))); counts = refl })
 
+totals-of : (s : Live) → GoodState s → (s .totals .«charge_in» ≤ 32768 * s .totals .ticks) × (s .totals .«charge_out» ≤ 32768 * s .totals .ticks) × (s .totals .unseen ≤ s .totals .ticks)
+totals-of s g = let c = counted (s .totals) (g .counts) in (c .inwards, c .outwards, c .unseen)
+
+-- New possible states and totals within the same limits.
+kept-good : (s : Live) (w : List ℕ) (t : Totals) → GoodState s → T (validRecord (s .settings .of) w) → Counted t
+    → T (good (record { cells = s .cells; idle = s .idle; settings = s .settings; states = record { words = w }; totals = t }))
+kept-good s w t g v c =
+    holds (record { cells = s .cells; idle = s .idle; settings = s .settings; states = record { words = w }; totals = t })
+    (record { cells = g .cells; idle = g .idle; rules = g .rules; states = is-true _ v; counts = counts t c })
+
+valid : (s : Live) → GoodState s → T (validRecord (s .settings .of) (s .states .words))
+valid s g = subst T (sym (g .states)) tt
+
 -- After a sample, and after a hole.
 seen-good : (s : Live) (x : Sample) → I16 (x .current) → T (good s) → T (good (withSample s x))
 unfolding withSample
 seen-good s x i t =
     let g = taken-apart s t in
-    let c = counted (s .totals) (g .counts) in
+    let (l, m, n) = totals-of s g in
     let a = in-most (x .current) i in
     let b = out-most (x .current) i in
-    let l = c .inwards in
-    let m = c .outwards in
-    let n = c .unseen in
-    holds (withSample s x)
-    (record {
-      cells = g .cells;
-      idle = g .idle;
-      rules = g .rules;
-      states = is-true _ (seen-valid (s .settings .of) (s .states .words) (subst T (sym (g .states)) tt) (short s g) (s .idle) (s .totals .ticks) (readingsOf x));
-      counts = counts (withSample s x .totals) (record { inwards = omega arith; outwards = omega arith; unseen = omega arith });
-    })
+    kept-good s _ _ g (seen-valid (s .settings .of) (s .states .words) (valid s g) (short s g) (s .idle) (s .totals .ticks) (readingsOf x))
+    (record { inwards = omega arith; outwards = omega arith; unseen = omega arith })
 
 unseen-good : (s : Live) (last : ℕ) → s .totals .ticks ≤ last → T (good s) → T (good (withHole s last))
 unfolding withHole
 unseen-good s last h t =
     let g = taken-apart s t in
-    let c = counted (s .totals) (g .counts) in
-    let l = c .inwards in
-    let m = c .outwards in
-    let n = c .unseen in
-    holds (withHole s last)
-    (record {
-      cells = g .cells;
-      idle = g .idle;
-      rules = g .rules;
-      states = is-true _ (unseen-valid (s .settings .of) (s .states .words) (subst T (sym (g .states)) tt) (short s g) (s .totals .ticks) last);
-      counts = counts (withHole s last .totals) (record { inwards = omega arith; outwards = omega arith; unseen = omega arith });
-    })
+    let (l, m, n) = totals-of s g in
+    kept-good s _ _ g (unseen-valid (s .settings .of) (s .states .words) (valid s g) (short s g) (s .totals .ticks) last)
+    (record { inwards = omega arith; outwards = omega arith; unseen = omega arith })
 
 hole-forward : (s : Live) (last : ℕ) → holeAnswer s last ≡ answer tt → s .totals .ticks ≤ last
 unfolding holeAnswer

@@ -1,22 +1,7 @@
-use mathlib.Core.Path.{_≡_, sym, ap, _∙_}
-use denote.Ref.{now}
-use Rattle.refusals.specs.Refusals.{Answer}
-use Rattle.trace.specs.Sections.{walkAnswer, replyCount}
-use Rattle.trace.specs.Acceptance.{Whole, acceptAnswer, answerOfAccept, ticksOf, layoutOf}
-use Rattle.totals.proofs.AcceptedTotals.{accepted-with}
 use borrow.Author.Needs.{needs}
+use Rattle.totals.proofs.AcceptedTotals.{accepted-by}
 use Rattle.feed_trace.proofs.feed_bytes.Statement.{statement}
 use Rattle.feed_trace.proofs.feed_bytes.Tie as tie
-
--- What `accept` says of a verdict buffer as long as the reply count.
-abbrev whole : tie.After-accept → Answer Whole
-whole c = let s = now (c .before .before .before .before .args .s) in acceptAnswer s 187 (replyCount (walkAnswer s))
-
-answers : (c : tie.After-accept) → answerOfAccept (c .accept .result .answer) ≡ ticksOf (whole c)
-answers c = rw (← c .before .reply-count .ensures) (c .accept .ensures .0)
-
-layout : (c : tie.After-accept) → c .accept .result .layout ≡ layoutOf (whole c)
-layout c = rw (← c .before .reply-count .ensures) (c .accept .ensures .1 .0)
 
 write-refusal-requires : tie.Need-write-refusal-requires
 write-refusal-requires c κs = search needs
@@ -42,7 +27,7 @@ enum-known-answer-2 c = search needs
 feed-accepted-requires : tie.Need-feed-accepted-requires
 feed-accepted-requires c κs =
     let a = c .before .before .before in
-    (a .before .before .if1 .left, accepted-with (whole a) (sym (ap answerOfAccept (c .before .answer2 .given .1)) ∙ answers a) (layout a))
+    (a .before .before .if1 .left, accepted-by _ (a .before .reply-count .ensures) (a .accept .ensures .0) (a .accept .ensures .1 .0) (c .before .answer2 .given .1))
 
 returns-2 : tie.Need-returns-2
 returns-2 c = search needs
