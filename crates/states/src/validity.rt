@@ -5,6 +5,7 @@ ghost use lib.Dec.{eqb};
 ghost use lib.ListN.{length};
 ghost use Rattle.states.specs.Words.{belowWord};
 ghost use Rattle.states.specs.Validity.{validSet, validRecord};
+use crate::words::below_word;
 use crate::words::top_for;
 use rules::Setting;
 use rules::Settings;
@@ -13,13 +14,7 @@ use rules::Settings;
 fn ends_below(x: u64, j: usize, t: usize) -> bool
     ensures { λ r. ⌜ r ≡ eqb (belowWord t j x) x ⌝ }
 {
-    if j < t / 64 {
-        return true;
-    }
-    if j == t / 64 {
-        return x % (1 << (t % 64)) == x;
-    }
-    0 == x
+    below_word(x, j, t) == x
 }
 
 // Whether rule i has a possible state and none above its top.
