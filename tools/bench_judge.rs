@@ -1,4 +1,5 @@
-// The proved judge beside the plain one: the same captures, in the same run. Stops if they differ in a byte.
+// The proved judge beside the plain one: the same captures, in the same run. Stops if they differ in a byte. Then a sample of the
+// live feed.
 #[path = "plain_judge.rs"]
 mod plain_judge;
 #[path = "trace_bytes.rs"]
@@ -17,6 +18,33 @@ extern "C" {
         report_len: usize,
         verdicts: *mut u8,
         verdicts_len: usize,
+    ) -> u64;
+    fn buttmitrel_live_begin(
+        cells: u8,
+        idle: u16,
+        rules: *const u8,
+        rules_len: usize,
+        words: *mut u64,
+        words_len: usize,
+        totals: *mut u64,
+        totals_len: usize,
+    ) -> u64;
+    fn buttmitrel_live_sample(
+        cells: u8,
+        idle: u16,
+        rules: *const u8,
+        rules_len: usize,
+        words: *mut u64,
+        words_len: usize,
+        totals: *mut u64,
+        totals_len: usize,
+        tick: u32,
+        current: i16,
+        board: i16,
+        volts: *const u16,
+        volts_len: usize,
+        temps: *const i16,
+        temps_len: usize,
     ) -> u64;
 }
 
@@ -165,6 +193,31 @@ fn measure(name: &str, trace: &[u8]) -> Times {
     least
 }
 
+// Seconds a live sample, its checks included: the least of many feeds of a thousand samples.
+fn live_sample() -> f64 {
+    let t = capture(0);
+    let bytes = t.bytes();
+    let (rules, samples): (&[u8], Vec<Sample>) = (&bytes[6..166], (0..1000).map(sample).collect());
+    let (mut words, mut totals) = ([0u64; 80], [0u64; 4]);
+    let mut least = f64::INFINITY;
+    for _ in 0..500 {
+        let (w, n) = (words.as_mut_ptr(), totals.as_mut_ptr());
+        assert!(unsafe { buttmitrel_live_begin(CELLS, t.idle, rules.as_ptr(), 160, w, 80, n, 4) } == 0);
+        let start = Instant::now();
+        for s in &samples {
+            let (v, c) = (s.volts.as_ptr(), s.temps.as_ptr());
+            let answer = unsafe {
+                let (r, k) = (rules.as_ptr(), CELLS as usize);
+                buttmitrel_live_sample(CELLS, t.idle, r, 160, w, 80, n, 4, s.tick, s.current, s.board, v, k, c, k)
+            };
+            assert!(answer == 0);
+        }
+        least = least.min(start.elapsed().as_secs_f64() / samples.len() as f64);
+    }
+    assert!(totals[3] == 1000);
+    least
+}
+
 fn text(seconds: f64) -> String {
     match seconds {
         s if s >= 1e-3 => format!("{:.2} ms", s * 1e3),
@@ -197,4 +250,5 @@ fn main() {
     println!("\nTime a sample at 65,535 samples over that at 1,000: proved {p:.2}, plain Rust {q:.2}.");
     let (p, q) = (giant.proved / empty.proved, giant.plain / empty.plain);
     println!("Time of the hole of 4,294,967,295 ticks over that of no record: proved {p:.1}, plain Rust {q:.1}.");
+    println!("A live sample of {CELLS} cells with its checks: {}.", text(live_sample()));
 }
