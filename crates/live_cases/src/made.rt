@@ -27,7 +27,7 @@ pub(crate) fn all_off() -> Settings {
     }
 }
 
-pub(crate) fn set(settings: Settings, i: usize, threshold: i32, recovery: i32, time: u8) -> Settings
+fn set(settings: Settings, i: usize, threshold: i32, recovery: i32, time: u8) -> Settings
     requires { ⌜ i < 16 ⌝ }
 {
     let mut of = settings.of;
@@ -37,6 +37,10 @@ pub(crate) fn set(settings: Settings, i: usize, threshold: i32, recovery: i32, t
         time,
     };
     Settings { of }
+}
+
+pub(crate) fn usual_rules() -> Settings {
+    set(all_off(), 0, 4200, 4100, 3)
 }
 
 // Every rule at state 0, nothing counted.
@@ -97,14 +101,14 @@ pub(crate) fn with_totals(
 }
 
 // Paper 01's case 7, S S H: rule 0 of time 3 is at state 0 or 3. The two samples charge with 1,000 mA.
-pub(crate) fn after_case_7(cells: u8, idle: u16, settings: Settings) -> Live {
+fn after_case_7(cells: u8, idle: u16, settings: Settings) -> Live {
     let begun = begun(cells, idle, settings);
     let stepped = with_word(begun, 0, 9);
     with_totals(stepped, 2000, 0, 1, 3)
 }
 
 pub(crate) fn with_head(cells: u8, idle: u16) -> Live {
-    after_case_7(cells, idle, set(all_off(), 0, 4200, 4100, 3))
+    after_case_7(cells, idle, usual_rules())
 }
 
 pub(crate) fn usual() -> Live {
@@ -115,6 +119,5 @@ pub(crate) fn usual() -> Live {
 pub(crate) fn with_rule(i: usize, threshold: i32, recovery: i32, time: u8) -> Live
     requires { ⌜ i < 16 ⌝ }
 {
-    let settings = set(all_off(), 0, 4200, 4100, 3);
-    after_case_7(3, 100, set(settings, i, threshold, recovery, time))
+    after_case_7(3, 100, set(usual_rules(), i, threshold, recovery, time))
 }

@@ -5,17 +5,14 @@ mod made;
 mod same;
 mod tries;
 
-use made::all_off;
-use made::set;
 use made::usual;
 use made::with_head;
 use made::with_rule;
 use made::with_totals;
 use made::with_word;
-use tries::try_begin;
 use tries::try_each;
 use tries::try_hole;
-use tries::try_refused_begin;
+use tries::try_rules;
 use tries::try_sample;
 
 // 161 bytes of rules, for cases of one too few and one too many, with numbers for a rule.
@@ -39,42 +36,31 @@ fn begin_cases() {
     let crossed = rule_bytes(none, 0, 4100, 4200, 3);
     let slow = rule_bytes(none, 0, 4200, 4100, 256);
     let last = rule_bytes(none, 15, 65535, 0, 1);
-    try_refused_begin(b"2 cells", 2, 0, &good[..160]);
-    try_refused_begin(b"13 cells", 13, 0, &good[..160]);
-    try_refused_begin(b"idle 32767", 3, 32767, &good[..160]);
-    try_refused_begin(b"rules of 159 bytes", 3, 0, &good[..159]);
-    try_refused_begin(b"rules of 161 bytes", 3, 0, &good);
-    try_refused_begin(b"no rules", 3, 0, &good[..0]);
-    try_refused_begin(
-        b"rule 0 recovers above its threshold",
-        3,
-        0,
-        &crossed[..160],
-    );
-    try_refused_begin(b"rule 0 of time 256", 3, 0, &slow[..160]);
-    try_refused_begin(b"rule 15 at 65535", 3, 0, &last[..160]);
-    try_refused_begin(b"rules 5 and 9 of time 256", 3, 0, &two[..160]);
+    try_rules(b"2 cells", 2, 0, good, 160);
+    try_rules(b"13 cells", 13, 0, good, 160);
+    try_rules(b"idle 32767", 3, 32767, good, 160);
+    try_rules(b"rules of 159 bytes", 3, 0, good, 159);
+    try_rules(b"rules of 161 bytes", 3, 0, good, 161);
+    try_rules(b"no rules", 3, 0, good, 0);
+    try_rules(b"rule 0 recovers above its threshold", 3, 0, crossed, 160);
+    try_rules(b"rule 0 of time 256", 3, 0, slow, 160);
+    try_rules(b"rule 15 at 65535", 3, 0, last, 160);
+    try_rules(b"rules 5 and 9 of time 256", 3, 0, two, 160);
 }
 
 fn begin_order() {
     let none = [0u8; 161];
     let good = rule_bytes(none, 0, 4200, 4100, 3);
     let slow = rule_bytes(none, 0, 4200, 4100, 256);
-    let rule_0 = set(all_off(), 0, 4200, 4100, 3);
-    try_refused_begin(b"2 cells, idle 32767", 2, 32767, &good[..160]);
-    try_refused_begin(b"13 cells, rules of 159 bytes", 13, 0, &good[..159]);
-    try_refused_begin(b"13 cells, rule 0 of time 256", 13, 0, &slow[..160]);
-    try_refused_begin(b"idle 32767, rules of 161 bytes", 3, 32767, &good);
-    try_refused_begin(b"idle 32767, rule 0 of time 256", 3, 32767, &slow[..160]);
-    try_refused_begin(
-        b"rules of 159 bytes, rule 0 of time 256",
-        3,
-        0,
-        &slow[..159],
-    );
-    try_refused_begin(b"rules of 161 bytes, rule 0 of time 256", 3, 0, &slow);
-    try_begin(b"3 cells, idle 0", 3, 0, &good[..160], rule_0);
-    try_begin(b"12 cells, idle 32766", 12, 32766, &good[..160], rule_0);
+    try_rules(b"2 cells, idle 32767", 2, 32767, good, 160);
+    try_rules(b"13 cells, rules of 159 bytes", 13, 0, good, 159);
+    try_rules(b"13 cells, rule 0 of time 256", 13, 0, slow, 160);
+    try_rules(b"idle 32767, rules of 161 bytes", 3, 32767, good, 161);
+    try_rules(b"idle 32767, rule 0 of time 256", 3, 32767, slow, 160);
+    try_rules(b"rules of 159 bytes, rule 0 of time 256", 3, 0, slow, 159);
+    try_rules(b"rules of 161 bytes, rule 0 of time 256", 3, 0, slow, 161);
+    try_rules(b"3 cells, idle 0", 3, 0, good, 160);
+    try_rules(b"12 cells, idle 32766", 12, 32766, good, 160);
 }
 
 fn sample_cases() {

@@ -49,15 +49,16 @@ fn same_totals(a: Totals, b: Totals) -> bool {
 pub(crate) fn same(a: Live, b: Live) -> bool {
     let a_states = a.states;
     let b_states = b.states;
-    let head = if a.cells == b.cells {
-        a.idle == b.idle
-    } else {
-        false
-    };
-    if head {
-        if same_settings(a.settings, b.settings) {
-            if same_totals(a.totals, b.totals) {
-                return same_words(a_states.words, b_states.words);
+    let a_words = a_states.words;
+    let b_words = b_states.words;
+    let a_settings = a.settings;
+    let b_settings = b.settings;
+    let a_totals = a.totals;
+    let b_totals = b.totals;
+    if rules::and(a.cells == b.cells, a.idle == b.idle) {
+        if same_settings(a_settings, b_settings) {
+            if same_totals(a_totals, b_totals) {
+                return same_words(a_words, b_words);
             }
         }
     }

@@ -2,6 +2,7 @@
 ghost use Prim.Native.Nat.{_≤_};
 use crate::made::all_off;
 use crate::made::begun;
+use crate::made::usual_rules;
 use crate::same::same;
 use flags::Output;
 use libc::STDOUT_FILENO;
@@ -11,7 +12,6 @@ use live::OutputRead;
 use live::Step;
 use live::TotalsRead;
 use refusals::Refusal;
-use rules::Settings;
 use totals::NetCharge;
 
 fn write(text: &[u8]) {
@@ -23,12 +23,15 @@ fn write_number(text: &[u8], n: u64) {
     io::print_decimal(STDOUT_FILENO, n);
 }
 
+fn magnitude(n: i64) -> u64 {
+    if n < 0 { (!n) as u64 + 1 } else { n as u64 }
+}
+
 fn write_signed(n: i64) {
     if n < 0 {
-        write_number(b"-", (!n) as u64 + 1);
-    } else {
-        write_number(b"", n as u64);
+        write(b"-");
     }
+    write_number(b"", magnitude(n));
 }
 
 fn start_line(call: &[u8], case: &[u8]) {
@@ -43,38 +46,41 @@ fn write_refusal(why: Refusal) {
     write_number(b" at ", refusals::place(why) as u64);
 }
 
-// A beginning that is refused answers the state of zeros.
-pub(crate) fn try_refused_begin(case: &[u8], cells: u8, idle: u16, rules: &[u8]) {
-    start_line(b"begin", case);
-    let step = live::begin(cells, idle, rules);
-    let answer = step.answer;
-    let state = step.state;
-    match answer {
-        Fed::Taken => write(b"taken"),
-        Fed::Refused(why) => write_refusal(why),
-    }
-    if same(state, begun(3, 0, all_off())) {
-        write(b", state of zeros\n");
+fn end_begin(state: Live, expected: Live, text: &[u8]) {
+    if same(state, expected) {
+        write(text);
     } else {
         write(b", another state\n");
     }
 }
 
-// A beginning that is taken answers every rule at state 0.
-pub(crate) fn try_begin(case: &[u8], cells: u8, idle: u16, rules: &[u8], settings: Settings) {
+// Refused, it answers the state of zeros; the cases that are taken have the usual rules.
+fn try_begin(case: &[u8], cells: u8, idle: u16, rules: &[u8]) {
     start_line(b"begin", case);
     let step = live::begin(cells, idle, rules);
     let answer = step.answer;
     let state = step.state;
     match answer {
-        Fed::Taken => write(b"taken"),
-        Fed::Refused(why) => write_refusal(why),
+        Fed::Refused(why) => {
+            write_refusal(why);
+            end_begin(state, begun(3, 0, all_off()), b", state of zeros\n");
+        }
+        Fed::Taken => {
+            write(b"taken");
+            end_begin(
+                state,
+                begun(cells, idle, usual_rules()),
+                b", every rule at state 0\n",
+            );
+        }
     }
-    if same(state, begun(cells, idle, settings)) {
-        write(b", every rule at state 0\n");
-    } else {
-        write(b", another state\n");
-    }
+}
+
+// A beginning from the first bytes of `rules`.
+pub(crate) fn try_rules(case: &[u8], cells: u8, idle: u16, rules: [u8; 161], bytes: usize)
+    requires { ⌜ bytes ≤ 161 ⌝ }
+{
+    try_begin(case, cells, idle, &rules[..bytes]);
 }
 
 fn end_line(before: Live, step: Step) {
@@ -125,10 +131,12 @@ fn try_flags(case: &[u8], state: Live) {
     let answer = read.answer;
     let flags = read.flags;
     let rule = flags.of[0];
+    let alert = rule.alert;
+    let status = rule.status;
     match answer {
         Fed::Taken => {
-            write_number(b"rule 0 reads ", flags::number(rule.alert) as u64);
-            write_number(b" ", flags::number(rule.status) as u64);
+            write_number(b"rule 0 reads ", flags::number(alert) as u64);
+            write_number(b" ", flags::number(status) as u64);
         }
         Fed::Refused(why) => write_refusal(why),
     }
