@@ -11,9 +11,9 @@ array-share-prefix-rules c = search needs
 
 slice-aggregate-try-begin : tie.Need-slice-aggregate-try-begin
 slice-aggregate-try-begin c =
-    let a = c .before .before .before .args in
-    let long : length (a .rules) ≡ 161 = search needs in
-    sym (length-take-le (a .bytes) (a .rules) (omega arith))
+    let a = c .before .before in
+    let long : length (a .args .t4) ≡ 161 = search needs in
+    sym (length-take-le (a .args .bytes) (a .args .t4) (omega (arith, a .pre)))
 
 try-begin-requires : tie.Need-try-begin-requires
 try-begin-requires c κs = search needs
