@@ -13,6 +13,7 @@ use made::with_word;
 use tries::try_each;
 use tries::try_hole;
 use tries::try_rules;
+use tries::try_same;
 use tries::try_sample;
 
 // 161 bytes of rules, for cases of one too few and one too many, with numbers for a rule.
@@ -27,6 +28,23 @@ fn rule_bytes(bytes: [u8; 161], i: usize, threshold: u16, recovery: u16, time: u
     rules[10 * i + 8] = (time % 256) as u8;
     rules[10 * i + 9] = (time / 256) as u8;
     rules
+}
+
+// One field changed each.
+fn same_cases() {
+    let state = usual();
+    try_same(b"nothing", state);
+    try_same(b"cells", with_head(4, 100));
+    try_same(b"idle", with_head(3, 101));
+    try_same(b"threshold of rule 0", with_rule(0, 4201, 4100, 3));
+    try_same(b"recovery of rule 0", with_rule(0, 4200, 4101, 3));
+    try_same(b"time of rule 15", with_rule(15, 0, 0, 1));
+    try_same(b"word 0", with_word(state, 0, 1));
+    try_same(b"word 79", with_word(state, 79, 1));
+    try_same(b"charge in", with_totals(state, 2001, 0, 1, 3));
+    try_same(b"charge out", with_totals(state, 2000, 1, 1, 3));
+    try_same(b"unseen", with_totals(state, 2000, 0, 2, 3));
+    try_same(b"ticks", with_totals(state, 2000, 0, 1, 4));
 }
 
 fn begin_cases() {
@@ -210,6 +228,7 @@ fn good_totals() {
 }
 
 fn main() {
+    same_cases();
     begin_cases();
     begin_order();
     sample_cases();

@@ -2,6 +2,7 @@
 ghost use Prim.Native.Nat.{_≤_};
 use crate::made::all_off;
 use crate::made::begun;
+use crate::made::usual;
 use crate::made::usual_rules;
 use crate::same::same;
 use flags::Output;
@@ -44,6 +45,16 @@ fn start_line(call: &[u8], case: &[u8]) {
 fn write_refusal(why: Refusal) {
     write_number(b"refused ", refusals::number(why) as u64);
     write_number(b" at ", refusals::place(why) as u64);
+}
+
+// Whether the comparison that the cases rely on sees a state as the usual one.
+pub(crate) fn try_same(case: &[u8], state: Live) {
+    start_line(b"same", case);
+    if same(state, usual()) {
+        write(b"yes\n");
+    } else {
+        write(b"no\n");
+    }
 }
 
 fn end_begin(state: Live, expected: Live, text: &[u8]) {
