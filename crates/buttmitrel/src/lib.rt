@@ -6,26 +6,15 @@ ghost use Rattle.pec.specs.Reply.{sealAnswer, sealed, checkAnswer};
 ghost use Rattle.trace.specs.Sections.{walkAnswer, replyCount};
 ghost use Rattle.totals.specs.Totals.{netAnswer};
 ghost use Rattle.judge.specs.Judge.{judgeAnswer, acceptance, reportAfter, verdictsAfter};
-ghost use mathlib.Core.List.{[], _∷_};
-ghost use Rattle.states.specs.Records.{fresh};
-ghost use Rattle.live.specs.State.{withSample, withHole};
-ghost use Rattle.live.specs.Calls.{beginAnswer, sampleAnswer, holeAnswer, ofGood};
 ghost use Rattle.buttmitrel.specs.Code.{codeOf, verdictCode, intoTwo, twoAfter};
-ghost use Rattle.buttmitrel.specs.Live.{stateOf, ofKept, listAfter, totalsList, begunAnswer, reportedAnswer, stateReport};
-
-mod keeping;
-
 use judge::Judged;
-use keeping::load;
-use keeping::report_state;
-use keeping::store;
-use live::Fed;
 use pec::Checked;
 use pec::Sealed;
 use refusals::Refusal;
 use totals::NetCharge;
 
-fn code(why: Refusal) -> u64
+// A refusal as one number.
+pub fn code(why: Refusal) -> u64
     ensures { λ n. ⌜ n ≡ codeOf {A = Unit {0}} (refusal why) ⌝ }
 {
     (refusals::number(why) as u64) * 4294967296 + (refusals::place(why) as u64)
@@ -93,100 +82,5 @@ pub extern "C" fn buttmitrel_net_charge(s: &[u8], bounds: &mut [i64]) -> u64
             bounds[1] = greatest;
             0
         }
-    }
-}
-
-// Begins a live feed: writes the states and the totals of the beginning.
-#[no_mangle]
-pub extern "C" fn buttmitrel_live_begin(
-    cells: u8,
-    idle: u16,
-    rules: &[u8],
-    words: &mut [u64],
-    totals: &mut [u64],
-) -> u64
-    ensures answer { λ n. ⌜ n ≡ codeOf (begunAnswer (beginAnswer cells idle (now (rules .entry))) (now (words .entry)) (now (totals .entry))) ⌝ }
-    ensures words { λ _. ⌜ now (words .exit) ≡ listAfter (begunAnswer (beginAnswer cells idle (now (rules .entry))) (now (words .entry)) (now (totals .entry))) fresh (now (words .entry)) ⌝ }
-    ensures totals { λ _. ⌜ now (totals .exit) ≡ listAfter (begunAnswer (beginAnswer cells idle (now (rules .entry))) (now (words .entry)) (now (totals .entry))) (0 ∷ 0 ∷ 0 ∷ 0 ∷ []) (now (totals .entry)) ⌝ }
-{
-    let step = live::begin(cells, idle, rules);
-    store(step, words, totals)
-}
-
-// Takes the sample of the expected tick.
-#[no_mangle]
-pub extern "C" fn buttmitrel_live_sample(
-    cells: u8,
-    idle: u16,
-    rules: &[u8],
-    words: &mut [u64],
-    totals: &mut [u64],
-    tick: u32,
-    current: i16,
-    board: i16,
-    volts: &[u16],
-    temps: &[i16],
-) -> u64
-    ensures answer { λ n. ⌜ n ≡ codeOf (ofKept (now (rules .entry)) (now (totals .entry)) (sampleAnswer (stateOf cells idle (now (rules .entry)) (now (words .entry)) (now (totals .entry))) tick (record { current = current; board = board; volts = now (volts .entry); temps = now (temps .entry) }))) ⌝ }
-    ensures words { λ _. ⌜ now (words .exit) ≡ listAfter (ofKept (now (rules .entry)) (now (totals .entry)) (sampleAnswer (stateOf cells idle (now (rules .entry)) (now (words .entry)) (now (totals .entry))) tick (record { current = current; board = board; volts = now (volts .entry); temps = now (temps .entry) }))) (withSample (stateOf cells idle (now (rules .entry)) (now (words .entry)) (now (totals .entry))) (record { current = current; board = board; volts = now (volts .entry); temps = now (temps .entry) }) .states .words) (now (words .entry)) ⌝ }
-    ensures totals { λ _. ⌜ now (totals .exit) ≡ listAfter (ofKept (now (rules .entry)) (now (totals .entry)) (sampleAnswer (stateOf cells idle (now (rules .entry)) (now (words .entry)) (now (totals .entry))) tick (record { current = current; board = board; volts = now (volts .entry); temps = now (temps .entry) }))) (totalsList (withSample (stateOf cells idle (now (rules .entry)) (now (words .entry)) (now (totals .entry))) (record { current = current; board = board; volts = now (volts .entry); temps = now (temps .entry) }) .totals)) (now (totals .entry)) ⌝ }
-{
-    let kept = load(cells, idle, rules, words, totals);
-    let answer = kept.answer;
-    let state = kept.state;
-    match answer {
-        Fed::Refused(why) => code(Refusal::State),
-        Fed::Taken => {
-            let step = live::sample(state, tick, current, board, volts, temps);
-            store(step, words, totals)
-        }
-    }
-}
-
-// Takes a hole from the expected tick up to its last tick.
-#[no_mangle]
-pub extern "C" fn buttmitrel_live_hole(
-    cells: u8,
-    idle: u16,
-    rules: &[u8],
-    words: &mut [u64],
-    totals: &mut [u64],
-    last: u32,
-) -> u64
-    ensures answer { λ n. ⌜ n ≡ codeOf (ofKept (now (rules .entry)) (now (totals .entry)) (holeAnswer (stateOf cells idle (now (rules .entry)) (now (words .entry)) (now (totals .entry))) last)) ⌝ }
-    ensures words { λ _. ⌜ now (words .exit) ≡ listAfter (ofKept (now (rules .entry)) (now (totals .entry)) (holeAnswer (stateOf cells idle (now (rules .entry)) (now (words .entry)) (now (totals .entry))) last)) (withHole (stateOf cells idle (now (rules .entry)) (now (words .entry)) (now (totals .entry))) last .states .words) (now (words .entry)) ⌝ }
-    ensures totals { λ _. ⌜ now (totals .exit) ≡ listAfter (ofKept (now (rules .entry)) (now (totals .entry)) (holeAnswer (stateOf cells idle (now (rules .entry)) (now (words .entry)) (now (totals .entry))) last)) (totalsList (withHole (stateOf cells idle (now (rules .entry)) (now (words .entry)) (now (totals .entry))) last .totals)) (now (totals .entry)) ⌝ }
-{
-    let kept = load(cells, idle, rules, words, totals);
-    let answer = kept.answer;
-    let state = kept.state;
-    match answer {
-        Fed::Refused(why) => code(Refusal::State),
-        Fed::Taken => {
-            let step = live::hole(state, last);
-            store(step, words, totals)
-        }
-    }
-}
-
-// Writes the report of a state into 187 bytes, with no first ticks.
-#[no_mangle]
-pub extern "C" fn buttmitrel_live_report(
-    cells: u8,
-    idle: u16,
-    rules: &[u8],
-    words: &[u64],
-    totals: &[u64],
-    report: &mut [u8],
-) -> u64
-    ensures answer { λ n. ⌜ n ≡ codeOf (reportedAnswer (ofKept (now (rules .entry)) (now (totals .entry)) (ofGood (stateOf cells idle (now (rules .entry)) (now (words .entry)) (now (totals .entry))) tt)) (now (report .entry))) ⌝ }
-    ensures report { λ _. ⌜ now (report .exit) ≡ listAfter (reportedAnswer (ofKept (now (rules .entry)) (now (totals .entry)) (ofGood (stateOf cells idle (now (rules .entry)) (now (words .entry)) (now (totals .entry))) tt)) (now (report .entry))) (stateReport (stateOf cells idle (now (rules .entry)) (now (words .entry)) (now (totals .entry))) (now (report .entry))) (now (report .entry)) ⌝ }
-{
-    let kept = load(cells, idle, rules, words, totals);
-    let answer = kept.answer;
-    let state = kept.state;
-    match answer {
-        Fed::Refused(why) => code(Refusal::State),
-        Fed::Taken => report_state(state, report),
     }
 }

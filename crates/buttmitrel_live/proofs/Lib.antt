@@ -1,0 +1,2 @@
+pub mod KeptLists
+pub mod Feeding
