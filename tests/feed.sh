@@ -22,8 +22,8 @@ if ! [ -x "$second" ]; then
         echo "feed: there is no $second, and no tools/second to build it from"
         exit 1
     fi
-    rt staticlib buttmitrel || exit 1
-    rustc --edition 2021 -O tools/second/main.rs -o "$second" -L native=target/staticlib -l static=buttmitrel || exit 1
+    rt staticlib buttmitrel >target/log/staticlib 2>&1 || { cat target/log/staticlib; exit 1; }
+    rustc --edition 2021 -O -o "$second" tools/second/main.rs -L native=target/staticlib -l static=buttmitrel || exit 1
 fi
 
 # What the feed writes where the judge writes this.
