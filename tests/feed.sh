@@ -22,8 +22,8 @@ if ! [ -x "$second" ]; then
         echo "feed: there is no $second, and no tools/second to build it from"
         exit 1
     fi
-    rt staticlib buttmitrel || exit 1
-    rustc --edition 2021 -O tools/second/main.rs -o "$second" -L native=target/staticlib -l static=buttmitrel || exit 1
+    rt staticlib buttmitrel >target/log/staticlib 2>&1 || { cat target/log/staticlib; exit 1; }
+    rustc --edition 2021 -O -o "$second" tools/second/main.rs -L native=target/staticlib -l static=buttmitrel || exit 1
 fi
 
 # What the feed writes where the judge writes this.
@@ -43,6 +43,7 @@ long_feed() { # BYTES
         function pick(low, high) { return low + int(rand() * (high - low + 1)) }
         BEGIN {
             srand(seed)
+            tick = 0
             print "cells 3\nidle 50"
             print "rule 0 threshold 4200 recovery 4100 time 3\nrule 1 threshold 3000 recovery 3100 time 5"
             print "rule 3 threshold 9600 recovery 9900 time 40\nrule 5 threshold -2000 recovery -1000 time 2"

@@ -71,6 +71,7 @@ fn begin_order() {
     let good = rule_bytes(none, 0, 4200, 4100, 3);
     let slow = rule_bytes(none, 0, 4200, 4100, 256);
     try_rules(b"2 cells, idle 32767", 2, 32767, good, 160);
+    try_rules(b"13 cells, idle 32767", 13, 32767, good, 160);
     try_rules(b"13 cells, rules of 159 bytes", 13, 0, good, 159);
     try_rules(b"13 cells, rule 0 of time 256", 13, 0, slow, 160);
     try_rules(b"idle 32767, rules of 161 bytes", 3, 32767, good, 161);
@@ -83,6 +84,7 @@ fn begin_order() {
 
 fn sample_cases() {
     let state = usual();
+    let late = with_totals(state, 0, 0, 0, 4294967294);
     let end = with_totals(state, 0, 0, 0, 4294967295);
     try_sample(b"no voltages", state, 3, 0, 3);
     try_sample(b"2 voltages", state, 3, 2, 3);
@@ -95,6 +97,13 @@ fn sample_cases() {
     try_sample(b"tick 4", state, 4, 3, 3);
     try_sample(b"tick 4294967295", state, 4294967295, 3, 3);
     try_sample(b"tick 3", state, 3, 3, 3);
+    try_sample(
+        b"tick 4294967294 when it is expected",
+        late,
+        4294967294,
+        3,
+        3,
+    );
     try_sample(b"tick 0 at the end of time", end, 0, 3, 3);
     try_sample(b"tick 4294967294 at the end of time", end, 4294967294, 3, 3);
     try_sample(b"tick 4294967295 at the end of time", end, 4294967295, 3, 3);
