@@ -37,6 +37,40 @@ uint64_t buttmitrel_seal(uint8_t command, uint16_t word, uint8_t *reply, size_t 
 /* 0 for a whole reply, 1 for a wrong address byte, 2 for a wrong packet error code, or 15 where reply_len is not 6. */
 uint64_t buttmitrel_check(const uint8_t *reply, size_t reply_len);
 
+/* The live feed: samples and holes one by one as an analyzer runs. The library keeps no state between calls; the caller does, and
+ * lends it to each call:
+ *   cells, idle, rules   what the feed began with: the cell count, the idle current in mA and the sixteen rules as the 160 bytes of
+ *                        a trace's rule section. The same at each call.
+ *   words                BUTTMITREL_WORDS x uint64_t: the possible states of the rules
+ *   totals               BUTTMITREL_TOTALS x uint64_t: charge in and charge out in mA seconds, unseen ticks, ticks. The last is
+ *                        the expected tick.
+ * A call may be handed any of these whatever: lists that are no state which the feed can reach are refusal 16, and so are other
+ * lengths of rules, words and totals but at the beginning. A refused call leaves words and totals as they were. */
+#define BUTTMITREL_WORDS 80
+#define BUTTMITREL_TOTALS 4
+#define BUTTMITREL_RULES 160
+#define BUTTMITREL_REPORT 187
+
+/* Begins a feed: 0, with every rule at state 0 and nothing counted, or refusal 3, 4, 6 or 7; then 15 where words_len is not 80 or
+ * totals_len is not 4. */
+uint64_t buttmitrel_live_begin(uint8_t cells, uint16_t idle, const uint8_t *rules, size_t rules_len, uint64_t *words,
+                               size_t words_len, uint64_t *totals, size_t totals_len);
+
+/* Takes the sample of the expected tick: 0, or 16, then 15 unless volts and temps have a number for each cell, then 9 at the
+ * expected tick for any other tick. Millivolts, mA, tenths of a degree. */
+uint64_t buttmitrel_live_sample(uint8_t cells, uint16_t idle, const uint8_t *rules, size_t rules_len, uint64_t *words,
+                                size_t words_len, uint64_t *totals, size_t totals_len, uint32_t tick, int16_t current,
+                                int16_t board, const uint16_t *volts, size_t volts_len, const int16_t *temps, size_t temps_len);
+
+/* Takes a hole from the expected tick up to its last tick: 0, or 16, then 8 at the expected tick for a last tick before it, and
+ * for FFFFFFFFh. */
+uint64_t buttmitrel_live_hole(uint8_t cells, uint16_t idle, const uint8_t *rules, size_t rules_len, uint64_t *words,
+                              size_t words_len, uint64_t *totals, size_t totals_len, uint32_t last);
+
+/* Writes the report of a state, as the judge's but with no first ticks (FFFFFFFFh): 0, or 16, then 12 where report_len is not 187. */
+uint64_t buttmitrel_live_report(uint8_t cells, uint16_t idle, const uint8_t *rules, size_t rules_len, const uint64_t *words,
+                                size_t words_len, const uint64_t *totals, size_t totals_len, uint8_t *report, size_t report_len);
+
 #ifdef __cplusplus
 }
 #endif

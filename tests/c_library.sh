@@ -1,0 +1,47 @@
+#!/usr/bin/env bash
+# The library for other programs: the examples in C and Rust compile against it and say of three captures, and of a short live feed,
+# what is written down here. The numbers are those of examples/*.answer and examples/README.md; the live feed is the story of
+# hidden_over_voltage with its hole at tick 3: two seconds over the threshold, the hole, then states 0 and 3 are possible.
+set -u
+out=target/c_library
+failed=0
+
+for command in cc rustc; do
+    if ! command -v "$command" >/dev/null; then
+        echo "c_library: there is no $command"
+        exit 1
+    fi
+done
+mkdir -p "$out" || exit 1
+rt staticlib buttmitrel >"$out/staticlib.log" 2>&1 || {
+    cat "$out/staticlib.log"
+    exit 1
+}
+cc -std=c99 -Wall -Wextra -Werror -I include -o "$out/judge_c" examples/c/judge.c target/staticlib/libbuttmitrel.a || exit 1
+rustc --edition 2021 -D warnings -o "$out/judge_rust" examples/rust/judge.rs -L target/staticlib -l static=buttmitrel || exit 1
+
+says() { # EXPECTED ARGUMENT...: both programs write these lines
+    local expected=$1 program
+    shift
+    for program in judge_c judge_rust; do
+        printf '%s\n' "$expected" | diff - <("$out/$program" "$@") && continue
+        echo "c_library: $program $*: FAILED"
+        failed=1
+    done
+}
+
+says 'accepted
+C 0 D 0 fuse 0
+net 3148500 to 3148500
+verdicts 444444' examples/clean_charge.trace
+says 'accepted
+C 2 D 0 fuse 0
+net -80304 to 116301
+verdicts 44666' examples/hidden_over_voltage.trace
+says 'refused 9 at 5' examples/refused/09_coverage.trace
+says 'tick 3: alert 1 status 0
+tick 7: alert 2 status 2
+refused 9 at 7'
+
+[ "$failed" -eq 0 ] && echo "c_library: C and Rust say what is written down, of three captures and of a live feed"
+exit "$failed"
