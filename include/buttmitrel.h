@@ -1,4 +1,5 @@
-/* The judge of a battery bus analyzer, for programs in C (and Rust): link target/staticlib/libbuttmitrel.a.
+/* The judge of a battery bus analyzer, for programs in C (and Rust): link target/staticlib/libbuttmitrel.a, and for the live feed
+ * target/staticlib/libbuttmitrel_live.a (`rt staticlib buttmitrel`, `rt staticlib buttmitrel_live`).
  *
  * Each function answers for any bytes and any lengths; what it answers and what it writes is proved for the Rattle code behind it.
  * Nothing proves the caller: it must pass pointers to as many readable (or writable) elements as the length beside them says, also
@@ -44,8 +45,8 @@ uint64_t buttmitrel_check(const uint8_t *reply, size_t reply_len);
  *   words                BUTTMITREL_WORDS x uint64_t: the possible states of the rules
  *   totals               BUTTMITREL_TOTALS x uint64_t: charge in and charge out in mA seconds, unseen ticks, ticks. The last is
  *                        the expected tick.
- * A call may be handed any of these whatever: lists that are no state which the feed can reach are refusal 16, and so are other
- * lengths of rules, words and totals but at the beginning. A refused call leaves words and totals as they were. */
+ * A call may be handed any of these whatever: lists that are no state (paper 01, refusal 16) are refused, and so are other lengths
+ * of rules, words and totals but at the beginning. A refused call leaves words and totals as they were. */
 #define BUTTMITREL_WORDS 80
 #define BUTTMITREL_TOTALS 4
 #define BUTTMITREL_RULES 160

@@ -1,7 +1,7 @@
 /* Judges a trace with the proved library; without a trace it feeds a few samples and a hole live.
  *
- *     rt staticlib buttmitrel
- *     cc -I include -o judge_c examples/c/judge.c target/staticlib/libbuttmitrel.a
+ *     rt staticlib buttmitrel; rt staticlib buttmitrel_live
+ *     cc -I include -o judge_c examples/c/judge.c target/staticlib/libbuttmitrel.a target/staticlib/libbuttmitrel_live.a
  *     ./judge_c examples/hidden_over_voltage.trace
  */
 #include <inttypes.h>
@@ -31,8 +31,10 @@ static int judge(const uint8_t *trace, size_t len)
     uint64_t answer = buttmitrel_judge(trace, len, report, sizeof report, verdicts, replies);
     if (answer == 0)
         answer = buttmitrel_net_charge(trace, len, net, 2);
-    if (answer != 0)
+    if (answer != 0) {
+        free(verdicts);
         return refused(answer);
+    }
     printf("accepted\nC %d D %d fuse %d\n", report[160], report[161], report[162]);
     printf("net %" PRId64 " to %" PRId64 "\nverdicts ", net[0], net[1]);
     for (size_t i = 0; i < replies; i++)

@@ -1,7 +1,7 @@
 // Judges a trace with the proved library; without a trace it feeds a few samples and a hole live.
 //
-//     rt staticlib buttmitrel
-//     rustc --edition 2021 -o judge_rust examples/rust/judge.rs -L target/staticlib -l static=buttmitrel
+//     rt staticlib buttmitrel; rt staticlib buttmitrel_live
+//     rustc --edition 2021 -o judge_rust examples/rust/judge.rs -L target/staticlib -l static=buttmitrel -l static=buttmitrel_live
 //     ./judge_rust examples/hidden_over_voltage.trace
 
 // include/buttmitrel.h says what each promises.
