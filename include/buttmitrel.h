@@ -44,8 +44,8 @@ uint64_t buttmitrel_check(const uint8_t *reply, size_t reply_len);
  *   words                BUTTMITREL_WORDS x uint64_t: the possible states of the rules
  *   totals               BUTTMITREL_TOTALS x uint64_t: charge in and charge out in mA seconds, unseen ticks, ticks. The last is
  *                        the expected tick.
- * A call may be handed any of these whatever: lists that are no state which the feed can reach are refusal 16, and so are other
- * lengths of rules, words and totals but at the beginning. A refused call leaves words and totals as they were. */
+ * A call may be handed any numbers and any lengths: what is no good state (paper 01, refusal 16) is refusal 16, and so is another
+ * length of rules, words or totals, but at the beginning. A refused call leaves words and totals as they were. */
 #define BUTTMITREL_WORDS 80
 #define BUTTMITREL_TOTALS 4
 #define BUTTMITREL_RULES 160
@@ -57,7 +57,7 @@ uint64_t buttmitrel_live_begin(uint8_t cells, uint16_t idle, const uint8_t *rule
                                size_t words_len, uint64_t *totals, size_t totals_len);
 
 /* Takes the sample of the expected tick: 0, or 16, then 15 unless volts and temps have a number for each cell, then 9 at the
- * expected tick for any other tick. Millivolts, mA, tenths of a degree. */
+ * expected tick for any other tick, and for FFFFFFFFh. mA, mV and tenths of a degree, as in a trace. */
 uint64_t buttmitrel_live_sample(uint8_t cells, uint16_t idle, const uint8_t *rules, size_t rules_len, uint64_t *words,
                                 size_t words_len, uint64_t *totals, size_t totals_len, uint32_t tick, int16_t current,
                                 int16_t board, const uint16_t *volts, size_t volts_len, const int16_t *temps, size_t temps_len);
