@@ -53,12 +53,19 @@ module _ (words totals : List ℕ) where
   begins n idle ss oo (refused number place) e s h = rw e at h
 
   -- a call of a state that was loaded
-  pub feeds : (rules : List ℕ) (new old : Live) (a : Answer (Unit {0})) {f : Answer (Unit {0})} {st : Live} {k : ℕ} {w t : List ℕ}
+  fed : (rules : List ℕ) (new old : Live) (a : Answer (Unit {0})) {f : Answer (Unit {0})} {st : Live} {k : ℕ} {w t : List ℕ}
       → isKept rules totals ≡ true → length words ≡ 80 → length totals ≡ 4
       → f ≡ a → st ≡ orKept a new old → After k w t (begunAnswer f words totals) words (st .states .words) totals (totalsList (st .totals))
       → After k w t (ofKept rules totals a) words (new .states .words) totals (totalsList (new .totals))
-  feeds rules new old (answer tt) i l m e s h = rw i (rw (e, s, lists-fit l m) at h)
-  feeds rules new old (refused number place) i l m e s h = rw i (rw e at h)
+  fed rules new old (answer tt) i l m e s h = rw i (rw (e, s, lists-fit l m) at h)
+  fed rules new old (refused number place) i l m e s h = rw i (rw e at h)
+
+  pub feeds : (rules : List ℕ) (answers : Live → Answer (Unit {0})) (next : Live → Live) (s : Live) {o : Live} {f : Answer (Unit {0})} {st : Live} {k : ℕ} {w t : List ℕ}
+      → (isKept rules totals ≡ true) × (length words ≡ 80) × (length totals ≡ 4) × (o ≡ s)
+      → f ≡ answers o → st ≡ orKept (answers o) (next o) o → After k w t (begunAnswer f words totals) words (st .states .words) totals (totalsList (st .totals))
+      → After k w t (ofKept rules totals (answers s)) words (next s .states .words) totals (totalsList (next s .totals))
+  feeds rules answers next s (i, l, m, q) e g h =
+      fed rules (next s) s (answers s) i l m (e ∙ ap answers q) (g ∙ ap (λ (y : Live). orKept (answers y) (next y) y) q) h
 
 -- A state that was not loaded is refusal 16.
 pub no-state : {A : Type 0} (rules totals : List ℕ) (s : Live) (a : Answer A) → (isKept rules totals && good s) ≡ false → (good s ≡ false → a ≡ refused 16 0) → ofKept rules totals a ≡ refused 16 0

@@ -1,5 +1,5 @@
 -- Lists that a caller keeps: copied, loaded as a state, and stored back.
-use Prim.Native.Nat.{ℕ, zero, suc, _+_, _≤_, _<_}
+use Prim.Native.Nat.{ℕ, _+_, _≤_, _<_}
 use mathlib.Core.Path.{_≡_, refl, sym, ap, ap₂, _∙_}
 use mathlib.Core.Bool.{Bool, true, false, cond, _&&_}
 use mathlib.Core.List.{List, [], _∷_}
@@ -10,9 +10,9 @@ use lib.Seq.{getD-set-same, getD-set-other, ext-getD}
 use borrow.Author.Tests.{eq-eqb, ne-eqb, eqb-true, le-leb, lt-leb, leb-true}
 use borrow.Author.Count.{below-more}
 use Rattle.refusals.specs.declared.Refusal.{Refusal}
-use Rattle.refusals.specs.Refusals.{Answer, answer, refused}
+use Rattle.refusals.specs.Refusals.{answer, refused}
 use Rattle.rules.specs.Table.{rows}
-use Rattle.limits.specs.Limits.{limitsAnswer, settingsOf, tabulateFrom, off}
+use Rattle.limits.specs.Limits.{limitsAnswer, settingsOf}
 use Rattle.ticks.proofs.Tests.{and-true}
 use Rattle.report.specs.declared.Totals.{Totals}
 use Rattle.states.specs.declared.States.{States}
@@ -24,7 +24,7 @@ use Rattle.live.specs.declared.Fed.the-variants.{Taken, Refused}
 use Rattle.live.specs.State.{passes, good, begun}
 use Rattle.live.specs.Calls.{beginAnswer, beginState}
 use Rattle.live.proofs.GoodStates.{parts}
-use Rattle.buttmitrel_live.specs.Live.{stateOf, isKept, totalsList}
+use Rattle.buttmitrel_live.specs.Live.{stateOf, isKept}
 use Rattle.buttmitrel_live.specs.Keeping.{areTotals, totalsOf, Filled, Loaded}
 
 -- The loop that copies eighty words: those below i are copied.

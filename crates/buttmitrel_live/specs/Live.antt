@@ -6,14 +6,11 @@ use lib.Dec.{leb, eqb}
 use lib.ListN.{length, getD}
 use Rattle.refusals.specs.Refusals.{Answer, answer, refused}
 use Rattle.limits.specs.Limits.{settingsOf}
-use Rattle.rules.specs.Samples.{Sample}
 use Rattle.fillings.specs.PossibleStates.{tabulate}
-use Rattle.states.specs.Records.{fresh}
 use Rattle.report.specs.declared.Totals.{Totals}
 use Rattle.report.specs.Layout.{reportAnswer, reported}
 use Rattle.live.specs.declared.Live.{Live}
-use Rattle.live.specs.State.{withSample, withHole}
-use Rattle.live.specs.Calls.{beginAnswer, sampleAnswer, holeAnswer, ofGood, flagsRead}
+use Rattle.live.specs.Calls.{flagsRead}
 
 -- The state in these lists. The totals are charge in, charge out, unseen ticks and ticks.
 abbrev pub stateOf : ℕ → ℕ → List ℕ → List ℕ → List ℕ → Live

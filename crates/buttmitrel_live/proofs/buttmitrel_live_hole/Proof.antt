@@ -1,7 +1,5 @@
-use mathlib.Core.Path.{ap, _∙_}
-use Rattle.live.specs.declared.Live.{Live}
 use Rattle.live.specs.State.{withHole}
-use Rattle.live.specs.Calls.{holeAnswer, holeState}
+use Rattle.live.specs.Calls.{holeAnswer}
 use Rattle.live.proofs.Stepping.{no-hole}
 use Rattle.buttmitrel_live.specs.Live.{stateOf}
 use Rattle.buttmitrel_live.proofs.Feeding.{stored-not, no-state, feeds}
@@ -54,10 +52,8 @@ returns-2 c =
     let l = h .before .before .before .before in
     let b = l .before .before .before .before .before .before .args in
     let s = stateOf (b .cells) (b .idle) (b .rules .now) (b .words .now) (b .totals .now) in
-    let k = l .load .ensures .kept (h .before .enum-told .given .1) in
     let e = h .hole .ensures in
-    feeds (b .words .now) (b .totals .now) (b .rules .now) (withHole s (b .last)) s (holeAnswer s (b .last)) (k .0) (k .1) (k .2)
-    (e .0 ∙ ap (λ (y : Live). holeAnswer y (b .last)) (k .3)) (e .1 ∙ ap (λ (y : Live). holeState y (b .last)) (k .3)) (q .store .ensures)
+    feeds (b .words .now) (b .totals .now) (b .rules .now) (λ y. holeAnswer y (b .last)) (λ y. withHole y (b .last)) s (l .load .ensures .kept (h .before .enum-told .given .1)) (e .0) (e .1) (q .store .ensures)
 
 pub buttmitrel-live-hole-spec : {M : Type 1} → statement M
 buttmitrel-live-hole-spec =

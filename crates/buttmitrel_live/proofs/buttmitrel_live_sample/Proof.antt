@@ -1,10 +1,8 @@
-use mathlib.Core.Path.{ap, _∙_}
 use mir.Syntax.{w16}
 use mir.ValLaws.{toZ-ofZ}
 use Rattle.rules.specs.Samples.{Sample}
-use Rattle.live.specs.declared.Live.{Live}
 use Rattle.live.specs.State.{withSample}
-use Rattle.live.specs.Calls.{sampleAnswer, sampleState}
+use Rattle.live.specs.Calls.{sampleAnswer}
 use Rattle.live.proofs.Stepping.{no-sample}
 use Rattle.buttmitrel_live.specs.Live.{stateOf}
 use Rattle.buttmitrel_live.proofs.Feeding.{stored-not, no-state, feeds}
@@ -58,12 +56,10 @@ returns-2 c =
     let l = h .before .before .before .before in
     let b = l .before .before .before .before .before .before .before .args in
     let s = stateOf (b .cells) (b .idle) (b .rules .now) (b .words .now) (b .totals .now) in
-    let k = l .load .ensures .kept (h .before .enum-told .given .1) in
     let x : Sample = record { current = b .current; board = b .board; volts = b .volts .now; temps = b .temps .now } in
     let f = l .before .before .before .before .before .before .before .fits in
     let e = rw (toZ-ofZ w16 (b .current) (f .current), toZ-ofZ w16 (b .board) (f .board)) at (h .sample .ensures) in
-    feeds (b .words .now) (b .totals .now) (b .rules .now) (withSample s x) s (sampleAnswer s (b .tick) x) (k .0) (k .1) (k .2)
-    (e .0 ∙ ap (λ (y : Live). sampleAnswer y (b .tick) x) (k .3)) (e .1 ∙ ap (λ (y : Live). sampleState y (b .tick) x) (k .3)) (q .store .ensures)
+    feeds (b .words .now) (b .totals .now) (b .rules .now) (λ y. sampleAnswer y (b .tick) x) (λ y. withSample y x) s (l .load .ensures .kept (h .before .enum-told .given .1)) (e .0) (e .1) (q .store .ensures)
 
 pub buttmitrel-live-sample-spec : {M : Type 1} → statement M
 buttmitrel-live-sample-spec =
