@@ -1,7 +1,7 @@
 // Little-endian numbers in a slice of bytes. Past the end a byte reads 0.
 ghost use mathlib.Core.Path.{_≡_};
-ghost use Prim.Native.Nat.{_+_, _*_};
-ghost use lib.ListN.{getD};
+ghost use Prim.Native.Nat.{_+_, _*_, _<_};
+ghost use lib.ListN.{getD, length};
 ghost use mir.Syntax.{w16, w32};
 ghost use mir.Val.{toZ};
 ghost use Rattle.bytes_le.specs.Numbers.{u16At, u32At, i16At, i32At};
@@ -53,11 +53,22 @@ pub fn u16_at(s: &[u8], at: usize) -> u16
     join16(s[at], byte_at(s, at + 1))
 }
 
+// Four bytes that lie within the slice.
+fn u32_within(s: &[u8], at: usize) -> u32
+    requires { ⌜ at + 3 < length (now s) ⌝ }
+    ensures { λ r. ⌜ r ≡ u32At (now (s .entry)) at ⌝ }
+{
+    join32(join16(s[at], s[at + 1]), join16(s[at + 2], s[at + 3]))
+}
+
 pub fn u32_at(s: &[u8], at: usize) -> u32
     ensures { λ r. ⌜ r ≡ u32At (now (s .entry)) at ⌝ }
 {
     if s.len() <= at {
         return 0;
+    }
+    if 3 < s.len() - at {
+        return u32_within(s, at);
     }
     if s.len() - at <= 2 {
         return join32(u16_at(s, at), 0);
