@@ -13,11 +13,8 @@ for command in cc rustc; do
     fi
 done
 mkdir -p "$out" || exit 1
-for library in buttmitrel buttmitrel_live; do
-    rt staticlib "$library" >"$out/staticlib.log" 2>&1 && continue
-    cat "$out/staticlib.log"
-    exit 1
-done
+. tools/static_library.sh
+static_library buttmitrel buttmitrel_live || exit 1
 cc -std=c99 -Wall -Wextra -Werror -I include -o "$out/judge_c" examples/c/judge.c target/staticlib/libbuttmitrel.a target/staticlib/libbuttmitrel_live.a || exit 1
 rustc --edition 2021 -D warnings -o "$out/judge_rust" examples/rust/judge.rs -L target/staticlib -l static=buttmitrel -l static=buttmitrel_live || exit 1
 

@@ -18,11 +18,8 @@ mkdir -p target/tools "$out" || exit 1
 
 # The generator of tests/second_program.sh.
 if ! [ -x "$second" ]; then
-    if ! [ -f tools/second/main.rs ]; then
-        echo "feed: there is no $second, and no tools/second to build it from"
-        exit 1
-    fi
-    rt staticlib buttmitrel >target/log/staticlib 2>&1 || { cat target/log/staticlib; exit 1; }
+    . tools/static_library.sh
+    static_library buttmitrel || exit 1
     rustc --edition 2021 -O -o "$second" tools/second/main.rs -L native=target/staticlib -l static=buttmitrel || exit 1
 fi
 

@@ -11,11 +11,12 @@ if ! [ -x "$program" ]; then
     exit 1
 fi
 mkdir -p target/tools
-rt staticlib buttmitrel >target/log/staticlib 2>&1 || { cat target/log/staticlib; exit 1; }
+. tools/static_library.sh
+static_library buttmitrel
 rustc --edition 2021 -O -o "$tool" tools/second/main.rs -L native=target/staticlib -l static=buttmitrel
 
 echo "second_program: seed $seed"
 "$tool" cases
-"$tool" slow "$seed" "${SLOW_TRACES:-6000}"
+"$tool" slow "$seed" "${SLOW_TRACES:-4000}"
 "$tool" sweep "$program"
-"$tool" compare "$seed" "${TRACES:-15000}" "$program"
+"$tool" compare "$seed" "${TRACES:-10000}" "$program"

@@ -15,7 +15,6 @@ mod words;
 use flags::Flags;
 pub use reading::flags_in;
 pub use reading::gap;
-pub use reading::status_in;
 use rules::Readings;
 use rules::Settings;
 pub use seen::see;

@@ -50,7 +50,7 @@ pub fn flags_in(words: &[u64], settings: Settings) -> Flags
 }
 
 // The status of rule i. Of a list that is no record, and past the rules, nothing is known.
-pub fn status_in(words: &[u64], i: usize, setting: Setting) -> Flag
+pub(crate) fn status_in(words: &[u64], i: usize, setting: Setting) -> Flag
     ensures { λ r. ⌜ r ≡ statusIn setting i (now (words .entry)) ⌝ }
 {
     if words.len() != 80 {
