@@ -16,7 +16,7 @@ use lib.Bits.{bitOr}
 use Rattle.fillings.specs.PossibleStates.{someBelow}
 use Rattle.fillings.proofs.Bools.{is-true, refuted, some-intro, some-elim}
 use Rattle.states.specs.Records.{bit, at}
-use Rattle.states.specs.Words.{belowWord, Below, Up, Raised, With}
+use Rattle.states.specs.Words.{belowWord, Below, Up, Raised, With, withWord}
 use Rattle.states.proofs.Bits.{bit-mod, bit-mod-above, bit-up, bit-up-first, bit-or, bit-pow-same, bit-pow-other, bit-some, bit-zero, below?, equal?}
 
 -- word j of the words w a place up
@@ -132,11 +132,7 @@ below-bits w r t e = record { bits = λ p h. ap (λ (x : ℕ). bit x (p % 64)) (
         (below? (p % 64) (t % 64))
 
 -- The bits of words with bit p set, if `on` says so.
--- Word j with bit p set, if `on` says so.
-unfoldable withWord : ℕ → Bool → ℕ → ℕ → ℕ
-withWord p on j x = cond (on && eqb j (p / 64)) (bitOr x (2 ^ (p % 64))) x
-
-with-bits : (w r : List ℕ) (p : ℕ) (on : Bool) → ((j : ℕ) → j < 5 → getD r j 0 ≡ withWord p on j (getD w j 0)) → With w p on r
+pub with-bits : (w r : List ℕ) (p : ℕ) (on : Bool) → ((j : ℕ) → j < 5 → getD r j 0 ≡ withWord p on j (getD w j 0)) → With w p on r
 unfolding at withWord
 with-bits w r p on e = record { bits = λ q h. ap (λ (x : ℕ). bit x (q % 64)) (e (q / 64) (omega arith)) ∙ set q on (eqb (q / 64) (p / 64)) refl }
   where
@@ -156,31 +152,6 @@ with-bits w r p on e = record { bits = λ q h. ap (λ (x : ℕ). bit x (q % 64))
 
         other : (q : ℕ) → q / 64 ≡ p / 64 → (q % 64 ≡ p % 64 → ⊥) → bit (2 ^ (p % 64)) (q % 64) ≡ eqb q p
         other q g n = bit-pow-other (p % 64) (q % 64) n ∙ sym (ne-eqb q p (λ h. n (ap (λ (x : ℕ). x % 64) h)))
-
--- One word written: the words with bit p.
-pub with-one : (w : List ℕ) (p : ℕ) → length w ≡ 5 → p < 320 → With w p true (set w (p / 64) (bitOr (getD w (p / 64) 0) (2 ^ (p % 64))))
-unfolding withWord
-with-one w p l h = with-bits w (set w k v) p true (λ j g. ⊎-elim (same j) (other j) (equal? j k))
-  where
-    k : ℕ
-    k = p / 64
-
-    v : ℕ
-    v = bitOr (getD w k 0) (2 ^ (p % 64))
-
-    same : (j : ℕ) → j ≡ k → getD (set w k v) j 0 ≡ cond (eqb j k) (bitOr (getD w j 0) (2 ^ (p % 64))) (getD w j 0)
-    same j e =
-        ap (λ (x : ℕ). getD (set w k v) x 0) e
-        ∙ getD-set-same w k v 0 (omega arith)
-        ∙ sym (ap (λ (b : Bool). cond b (bitOr (getD w j 0) (2 ^ (p % 64))) (getD w j 0)) (eq-eqb j k e) ∙ ap (λ (x : ℕ). bitOr (getD w x 0) (2 ^ (p % 64))) e)
-
-    other : (j : ℕ) → (j ≡ k → ⊥) → getD (set w k v) j 0 ≡ cond (eqb j k) (bitOr (getD w j 0) (2 ^ (p % 64))) (getD w j 0)
-    other j d =
-        getD-set-other w k j v 0 d
-        ∙ sym (ap (λ (b : Bool). cond b (bitOr (getD w j 0) (2 ^ (p % 64))) (getD w j 0)) (ne-eqb j k d))
-
-pub with-none : (w : List ℕ) (p : ℕ) → With w p false w
-with-none w p = record { bits = λ q h. sym (or-false (at w q)) }
 
 zeros : (n j : ℕ) → getD {A = ℕ} (replicate n 0) j 0 ≡ 0
 zeros zero j = refl

@@ -5,6 +5,7 @@ use mathlib.Core.Bool.{Bool, true, false, cond, _&&_, _||_}
 use mathlib.Core.List.{List}
 use lib.Dec.{ltb, eqb}
 use lib.ListN.{getD}
+use lib.Bits.{bitOr}
 use Rattle.states.specs.Records.{bit, at}
 
 -- Word j without the bits from t on.
@@ -24,6 +25,10 @@ pub record Up (w r : List ℕ) : Type 0 where
 pub record Raised (w : List ℕ) (on : Bool) (r : List ℕ) : Type 0 where
   pub first : at r 0 ≡ false
   pub next : (p : ℕ) → p + 1 < 320 → at r (p + 1) ≡ (on && at w p)
+
+-- Word j with bit p set, if `on` says so.
+unfoldable pub withWord : ℕ → Bool → ℕ → ℕ → ℕ
+withWord p on j x = cond (on && eqb j (p / 64)) (bitOr x (2 ^ (p % 64))) x
 
 -- The words w, with bit p set if `on` says so.
 pub record With (w : List ℕ) (p : ℕ) (on : Bool) (r : List ℕ) : Type 0 where

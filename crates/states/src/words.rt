@@ -7,7 +7,7 @@ ghost use Rattle.fillings.specs.PossibleStates.{someBelow, found, next, start, 
 ghost use Rattle.rules.specs.Evaluation.{top, alert, status};
 ghost use Rattle.fillings.specs.Flags.{flag};
 ghost use Rattle.states.specs.Records.{at, statesOf, wordsOf};
-ghost use Rattle.states.specs.Words.{belowWord, Below, Up, Raised, With, Alerting, Same, WordsUp, Joined, Filled};
+ghost use Rattle.states.specs.Words.{belowWord, withWord, Below, Up, Raised, With, Alerting, Same, WordsUp, Joined, Filled};
 use flags::Flag;
 
 const HALF: u64 = 9223372036854775808;
@@ -68,15 +68,28 @@ fn up_one(mut w: [u64; 5]) -> [u64; 5]
     w
 }
 
+fn with_word(x: u64, j: usize, p: usize, on: bool) -> u64
+    ensures { λ y. ⌜ y ≡ withWord p on j x ⌝ }
+{
+    if j == p / 64 {
+        if on {
+            return x | (1 << (p % 64));
+        }
+        return x;
+    }
+    x
+}
+
 // The states with state p, if `on` says so.
 fn with_state(mut w: [u64; 5], p: usize, on: bool) -> [u64; 5]
     requires { ⌜ p < 320 ⌝ }
     ensures { λ r. ⌜ With w p on r ⌝ }
 {
-    if on {
-        let k = p / 64;
-        w[k] = w[k] | (1 << (p % 64));
-        return w;
+    let mut i: usize = 0;
+    while i < 5 {
+        let x = w[i];
+        w[i] = with_word(x, i, p, on);
+        i += 1;
     }
     w
 }

@@ -1,32 +1,60 @@
-use Prim.Native.Nat.{_%_}
+use Prim.Native.Nat.{_-_}
 use native.Mathlib.Omega.{arith}
-use Rattle.states.proofs.Bits.{one-shifted}
-use Rattle.states.proofs.FiveWords.{with-one, with-none}
 use borrow.Author.Needs.{needs}
+use Rattle.states.specs.Words.{withWord}
+use Rattle.states.proofs.FiveWords.{Changed, changed-start, changed-next, changed-end, with-bits}
 use Rattle.states.proofs.words.with_state.Statement.{statement}
 use Rattle.states.proofs.words.with_state.Tie as tie
 
-mul-w : tie.Need-mul-w
-mul-w c = search needs
+abbrev Inv-loop : tie.InvT-loop
+Inv-loop p on w₀ i₀ w i = Changed (withWord p on) w₀ w i
 
-array-read-w : tie.Need-array-read-w
-array-read-w c = search needs
+abbrev μ-loop : tie.MeasureT-loop
+μ-loop p on w₀ i₀ w i = 5 - i
 
-shl-w : tie.Need-shl-w
-shl-w c = search needs
+loop-holds : tie.Need-loop-holds Inv-loop μ-loop
+loop-holds c = changed-start _ _ (search needs)
 
-mul-w-2 : tie.Need-mul-w-2
-mul-w-2 c = search needs
+mul-x : tie.Need-mul-x Inv-loop μ-loop
+mul-x c = omega arith
 
-array-write-w : tie.Need-array-write-w
-array-write-w c = search needs
+array-read-x : tie.Need-array-read-x Inv-loop μ-loop
+array-read-x c = omega arith
 
-returns : tie.Need-returns
-returns c = rw (one-shifted (c .before .args .p % 64) (omega arith), c .if1 .taken) (with-one (c .before .args .t1) (c .before .args .p) (search needs) (c .before .pre))
+with-word-requires : tie.Need-with-word-requires Inv-loop μ-loop
+with-word-requires c κs = search needs
 
-returns-2 : tie.Need-returns-2
-returns-2 c = rw (c .if1 .left) (with-none (c .before .args .t1) (c .before .args .p))
+mul-w : tie.Need-mul-w Inv-loop μ-loop
+mul-w c = omega arith
+
+array-write-w : tie.Need-array-write-w Inv-loop μ-loop
+array-write-w c = omega arith
+
+add-i : tie.Need-add-i Inv-loop μ-loop
+add-i c = omega arith
+
+loop-less : tie.Need-loop-less Inv-loop μ-loop
+loop-less c = omega arith
+
+loop-again : tie.Need-loop-again Inv-loop μ-loop
+loop-again c = changed-next _ _ _ _ _ (c .before .loop-test .taken) (c .before .before .loop .inv) (c .with-word .ensures)
+
+returns : tie.Need-returns Inv-loop μ-loop
+returns c = with-bits _ _ _ _ (changed-end _ _ _ _ (c .loop-test .left) (c .before .loop .inv))
 
 pub with-state-spec : {M : Type 1} → statement M
 with-state-spec =
-    tie.close (tie.spec mul-w array-read-w shl-w mul-w-2 array-write-w returns returns-2)
+    tie.close
+    (tie.spec
+    Inv-loop
+    μ-loop
+    loop-holds
+    mul-x
+    array-read-x
+    with-word-requires
+    mul-w
+    array-write-w
+    add-i
+    loop-less
+    loop-again
+    returns)
