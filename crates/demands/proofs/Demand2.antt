@@ -1,30 +1,37 @@
 -- Demand 2 of every accepted trace.
 use Prim.Native.Nat.{ℕ, zero, suc, _<_}
 use native.Mathlib.Omega.{arith}
-use mathlib.Core.Path.{_≡_, refl, sym, ap, _∙_, subst}
+use mathlib.Core.Path.{_≡_, refl, sym, ap, ap₂, _∙_, subst}
 use mathlib.Core.Bool.{Bool, true, false, not, cond, _||_}
-use mathlib.Core.List.{List, [], _∷_}
-use lib.Dec.{T}
+use mathlib.Core.List.{List, [], _∷_, map}
+use lib.Dec.{T, ltb, leb}
+use borrow.Author.Tests.{leb-false}
+use Rattle.refusals.specs.Refusals.{answer}
 use Rattle.rules.specs.declared.Row.{Row}
 use Rattle.rules.specs.Table.{rows}
 use Rattle.rules.specs.Evaluation.{alert}
 use Rattle.flags.specs.declared.Flag.{Flag}
 use Rattle.flags.specs.declared.Flag.the-variants.{Clear, Held}
 use Rattle.flags.specs.declared.Output.{Output}
-use Rattle.flags.specs.declared.Output.the-variants.{ChargeOpen, DischargeOpen, Fuse}
+use Rattle.flags.specs.declared.Output.the-variants.{ChargeOpen, DischargeOpen, Fuse, TerminateChargeAlarm, OverTempAlarm, TerminateDischargeAlarm}
 use Rattle.flags.specs.Flags.{numberOf, withNext}
 use Rattle.flags.specs.Outputs.{drivers, outputOf, activeOf}
+use Rattle.trace.specs.Records.{Reply}
 use Rattle.trace.specs.Sections.{samplesPart}
+use Rattle.trace.specs.Coverage.{repliesAnswer}
+use Rattle.trace.proofs.Answers.{unless}
 use Rattle.fillings.specs.PossibleStates.{tabulate}
 use Rattle.fillings.specs.Flags.{statusFlag}
 use Rattle.fillings.proofs.Demand3.{judged}
 use Rattle.fillings.proofs.Witness.{blank, blank-carried}
 use Rattle.ticks.specs.Traces.{Trace, traceOf, shown, Accepted}
 use Rattle.ticks.proofs.AcceptedBytes.{accepted}
+use Rattle.ticks.proofs.Tests.{or-false}
 use Rattle.ticks.proofs.CoveredOnce.{covered-once}
+use Rattle.demands.specs.Verdicts.{verdictOn, traceVerdicts}
 use Rattle.demands.specs.Reading.{ruleIn, Fills, UnderEvery, UnderSome}
 use Rattle.demands.specs.Demand3.{outputAt}
-use Rattle.demands.specs.Demand2.{runState, runActive, runOutput, RunJudged, TotalsJudged, Demand2}
+use Rattle.demands.specs.Demand2.{runState, runActive, runOutput, runVerdict, RunJudged, TotalsJudged, Demand2}
 use Rattle.demands.proofs.ReportReads.{report-long, report-in, report-out, report-unseen, report-ticks}
 use Rattle.demands.proofs.TotalBounds.{Currents, currents, ticks-fit, unseen-fit, in-fits, out-fits}
 use Rattle.demands.proofs.FillingsOfTrace.{always}
@@ -61,10 +68,6 @@ output-sure drives [] n b = refl
 output-sure drives (row ∷ rs) zero b = refl
 output-sure drives (row ∷ rs) (suc n) b = with-sure (drives row) (b 0) _ _ (output-sure drives rs n (λ i. b (suc i)))
 
-number-sure : (b : Bool) → numberOf (sureFlag b) ≡ cond b 1 0
-number-sure true = refl
-number-sure false = refl
-
 -- What is x where a test holds and y where it does not.
 by-test : {A : Type 0} (b : Bool) (n x y : A) → (T b → n ≡ x) → (T (not b) → n ≡ y) → n ≡ cond b x y
 by-test true n x y f g = f tt
@@ -94,10 +97,25 @@ module _ (tr : Trace) (ok : Accepted tr) (none : tr .holes ≡ []) where
       (λ u. j .statusHeld t .1 (always tr ok i t (active-of tr i) (run-every i t l (active-of tr i) u)))
       (λ u. j .statusClear t .1 (always tr ok i t (λ s. not (active-of tr i s)) (run-every i t l (λ s. not (active-of tr i s)) u)))
 
-  output-run : (o : Output) (t : ℕ) → t < tr .ticks → numberOf (outputAt tr o t) ≡ cond (runOutput tr o t) 1 0
+  output-run : (o : Output) (t : ℕ) → t < tr .ticks → outputAt tr o t ≡ runOutput tr o t
   output-run o t l =
-      ap numberOf (ap (outputOf (drivers o) rows) (tabulate-same 16 _ _ (λ i h. status-sure i t h l)) ∙ output-sure (drivers o) rows 16 (λ i. runActive tr i t))
-      ∙ number-sure (runOutput tr o t)
+      ap (outputOf (drivers o) rows) (tabulate-same 16 _ _ (λ i h. status-sure i t h l)) ∙ output-sure (drivers o) rows 16 (λ i. runActive tr i t)
+
+  verdict-run : (r : Reply) → r .tick < tr .ticks → verdictOn (tr .pack) (shown tr) r ≡ runVerdict tr r
+  verdict-run r l =
+      rw (output-run TerminateChargeAlarm (r .tick) l, output-run OverTempAlarm (r .tick) l, output-run TerminateDischargeAlarm (r .tick) l)
+
+  verdicts-run : (rs : List Reply) (i low : ℕ) → repliesAnswer (tr .ticks) rs i low ≡ answer tt → map (verdictOn (tr .pack) (shown tr)) rs ≡ map (runVerdict tr) rs
+  unfolding repliesAnswer
+  verdicts-run [] i low e = refl
+  verdicts-run (r ∷ rs) i low e =
+      let p = unless (ltb (r .tick) low || leb (tr .ticks) (r .tick)) 10 i _ e in
+      let l = leb-false (tr .ticks) (r .tick) (or-false (ltb (r .tick) low) _ (p .0) .1) in
+      ap₂ (λ v vs. v ∷ vs) (verdict-run r (omega arith)) (verdicts-run rs (suc i) (r .tick) (p .1))
+
+  verdicts-all : traceVerdicts tr ≡ map (runVerdict tr) (tr .replies)
+  unfolding traceVerdicts
+  verdicts-all = verdicts-run (tr .replies) 0 0 (ok .replies)
 
   run-judged : RunJudged tr
   run-judged =
@@ -111,9 +129,10 @@ module _ (tr : Trace) (ok : Accepted tr) (none : tr .holes ≡ []) where
             (λ u. rule-judged tr ok i h .statusClear t l .1 (run-every i t l (λ s. not (active-of tr i s)) u));
         possible = λ i h. first-alike _ _ (λ t l. some-run i t l (active-of tr i)) (λ t l. run-some i t l (active-of tr i)) (rule-judged tr ok i h .firstSome);
         held = λ i h. first-alike _ _ (λ t l. every-run i t l (active-of tr i)) (λ t l. run-every i t l (active-of tr i)) (rule-judged tr ok i h .firstAll);
-        charge = λ t l. charge-at tr ok t ∙ output-run ChargeOpen t l;
-        discharge = λ t l. discharge-at tr ok t ∙ output-run DischargeOpen t l;
-        fuse = λ t l. fuse-at tr ok t ∙ output-run Fuse t l;
+        charge = λ t l. charge-at tr ok t ∙ ap numberOf (output-run ChargeOpen t l);
+        discharge = λ t l. discharge-at tr ok t ∙ ap numberOf (output-run DischargeOpen t l);
+        fuse = λ t l. fuse-at tr ok t ∙ ap numberOf (output-run Fuse t l);
+        verdicts = verdicts-all;
         ticks = ticks-are tr ok none;
       }
 

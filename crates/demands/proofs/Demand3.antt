@@ -26,6 +26,7 @@ use Rattle.demands.specs.Demand3.{RuleJudged, activeUnder, OutputsJudged
 use Rattle.demands.proofs.ReportReads.{report-possible, report-held}
 use Rattle.demands.proofs.TotalBounds.{ticks-fit}
 use Rattle.demands.proofs.FillingsOfTrace.{within, within-fills, within-alike, filling-fills, after-within, net-within, every, always, some, sometimes, sure-at, sure}
+use Rattle.demands.proofs.EndReads.{end-judged}
 use Rattle.demands.proofs.CutReads.{tabulate-same, alert-at, status-at, charge-at, discharge-at, fuse-at}
 
 -- The number of a flag tells the flag.
@@ -130,7 +131,7 @@ module _ (tr : Trace) (ok : Accepted tr) where
       }
 
   pub trace-judged : TraceJudged tr
-  trace-judged = record { rules = rule-judged; outputs = outputs-judged; charge = charge-judged }
+  trace-judged = record { rules = rule-judged; outputs = outputs-judged; charge = charge-judged; end = end-judged tr ok }
 
 pub demand3 : Demand3
 demand3 s report verdicts w h = trace-judged (traceOf s w) (accepted s report verdicts w h)

@@ -2,6 +2,7 @@ pub mod ReportReads
 pub mod TotalBounds
 pub mod FillingsOfTrace
 pub mod CutReads
+pub mod EndReads
 pub mod Demand3
 pub mod OneRun
 pub mod Demand2

@@ -1,8 +1,8 @@
--- Demand 2 of an accepted trace: with no hole there is one run, and flags, outputs and first ticks are those of the run; the totals are sums over the records.
+-- Demand 2 of an accepted trace: with no hole there is one run, and flags, outputs, first ticks and verdicts are those of the run; the totals are sums over the records.
 use Prim.Native.Nat.{ℕ, suc, _+_, _*_, _<_}
 use mathlib.Core.Path.{_≡_}
 use mathlib.Core.Bool.{Bool, cond}
-use mathlib.Core.List.{List, [], _∷_}
+use mathlib.Core.List.{List, [], _∷_, map}
 use lib.Dec.{T}
 use lib.ListN.{length, take}
 use Rattle.refusals.specs.Refusals.{answer}
@@ -10,18 +10,23 @@ use Rattle.bytes_le.specs.Numbers.{u32At}
 use Rattle.rules.specs.Table.{rows}
 use Rattle.rules.specs.Samples.{Sample}
 use Rattle.rules.specs.Evaluation.{alert, status, evaluated}
+use Rattle.flags.specs.declared.Flag.{Flag}
+use Rattle.flags.specs.declared.Flag.the-variants.{Clear, Held}
 use Rattle.flags.specs.declared.Output.{Output}
-use Rattle.flags.specs.declared.Output.the-variants.{ChargeOpen, DischargeOpen, Fuse}
+use Rattle.flags.specs.declared.Output.the-variants.{ChargeOpen, DischargeOpen, Fuse, TerminateChargeAlarm, OverTempAlarm, TerminateDischargeAlarm}
+use Rattle.flags.specs.Flags.{numberOf}
 use Rattle.flags.specs.Outputs.{drivers, activeOf}
-use Rattle.trace.specs.Records.{Stamped}
+use Rattle.verdicts.specs.Verdicts.{verdictOf}
+use Rattle.trace.specs.Records.{Reply, Stamped}
 use Rattle.trace.specs.Acceptance.{Whole, acceptAnswer}
 use Rattle.fillings.specs.Fillings.{Rule, last, evaluate}
 use Rattle.fillings.specs.PossibleStates.{tabulate}
 use Rattle.fillings.specs.Charge.{inward, outward}
 use Rattle.fillings.specs.Demand3.{First}
-use Rattle.ticks.specs.Traces.{Trace, traceOf}
+use Rattle.ticks.specs.Traces.{Trace, traceOf, shown}
 use Rattle.ticks.specs.Promises.{overSamples, overHoles}
 use Rattle.demands.specs.Report.{traceReport}
+use Rattle.demands.specs.Verdicts.{tickOf, traceVerdicts}
 use Rattle.demands.specs.Reading.{byteAt, alertAt, statusAt, possibleFrom, heldFrom, ruleIn, stateUnder}
 
 -- A u64 of a list of bytes.
@@ -41,9 +46,20 @@ runState tr i t = runFrom (ruleIn tr i) 0 (take (suc t) (tr .samples)) 0
 abbrev pub runActive : Trace → ℕ → ℕ → Bool
 runActive tr i t = status (last (ruleIn tr i)) (runState tr i t)
 
--- Whether an output is held: a rule that drives it has status active.
-abbrev pub runOutput : Trace → Output → ℕ → Bool
-runOutput tr o t = activeOf (drivers o) rows (tabulate 16 (λ i. runActive tr i t))
+-- An output, or a status bit: held if a rule that drives it has status active, else clear.
+abbrev pub runOutput : Trace → Output → ℕ → Flag
+runOutput tr o t = cond (activeOf (drivers o) rows (tabulate 16 (λ i. runActive tr i t))) Held Clear
+
+-- The verdict on a reply, from the sample of its tick and the bits 4000h, 1000h and 0800h after it.
+abbrev pub runVerdict : Trace → Reply → ℕ
+runVerdict tr r =
+    verdictOf (tickOf (shown tr (r .tick)))
+    (record {
+      «terminate_charge» = runOutput tr TerminateChargeAlarm (r .tick);
+      «over_temp» = runOutput tr OverTempAlarm (r .tick);
+      «terminate_discharge» = runOutput tr TerminateDischargeAlarm (r .tick);
+    })
+    (r .bytes)
 
 -- What is promised of a trace with no hole.
 pub record RunJudged (tr : Trace) : Type 0 where
@@ -52,9 +68,10 @@ pub record RunJudged (tr : Trace) : Type 0 where
   pub statuses : (i t : ℕ) → i < 16 → t < tr .ticks → statusAt tr i t ≡ cond (runActive tr i t) 1 0
   pub possible : (i : ℕ) → i < 16 → First (tr .ticks) (λ t. T (runActive tr i t)) (possibleFrom tr i)
   pub held : (i : ℕ) → i < 16 → First (tr .ticks) (λ t. T (runActive tr i t)) (heldFrom tr i)
-  pub charge : (t : ℕ) → t < tr .ticks → byteAt tr t 160 ≡ cond (runOutput tr ChargeOpen t) 1 0
-  pub discharge : (t : ℕ) → t < tr .ticks → byteAt tr t 161 ≡ cond (runOutput tr DischargeOpen t) 1 0
-  pub fuse : (t : ℕ) → t < tr .ticks → byteAt tr t 162 ≡ cond (runOutput tr Fuse t) 1 0
+  pub charge : (t : ℕ) → t < tr .ticks → byteAt tr t 160 ≡ numberOf (runOutput tr ChargeOpen t)
+  pub discharge : (t : ℕ) → t < tr .ticks → byteAt tr t 161 ≡ numberOf (runOutput tr DischargeOpen t)
+  pub fuse : (t : ℕ) → t < tr .ticks → byteAt tr t 162 ≡ numberOf (runOutput tr Fuse t)
+  pub verdicts : traceVerdicts tr ≡ map (runVerdict tr) (tr .replies)
   pub ticks : tr .ticks ≡ length (tr .samples)
 
 -- What is promised of the totals, holes or not: they are sums over the records.

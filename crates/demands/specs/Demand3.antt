@@ -1,5 +1,5 @@
--- Demand 3 of every accepted trace, whole: flags, first ticks and `sure` claims, outputs and bits, and the bounds of the net charge.
-use Prim.Native.Nat.{ℕ, suc, _+_, _≤_, _<_}
+-- Demand 3 of every accepted trace, whole: flags, first ticks and `sure` claims, outputs and bits, the bounds of the net charge, and the end.
+use Prim.Native.Nat.{ℕ, suc, _+_, _*_, _≤_, _<_}
 use mathlib.Core.Path.{_≡_}
 use mathlib.Core.Logic.{_↔_}
 use mathlib.Core.Bool.{Bool, not}
@@ -22,7 +22,8 @@ use Rattle.fillings.specs.Charge.{netCharge, leastCharge, greatestCharge}
 use Rattle.fillings.specs.Demand3.{First, evaluations, Tripping}
 use Rattle.trace.specs.Acceptance.{Whole, acceptAnswer}
 use Rattle.ticks.specs.Traces.{Trace, traceOf, shown, inHole}
-use Rattle.demands.specs.Reading.{byteAt, alertAt, statusAt, possibleFrom, heldFrom, ruleIn, Fills, stateUnder, UnderEvery, UnderSome, SureAt}
+use Rattle.ticks.specs.Cut.{cutAt}
+use Rattle.demands.specs.Reading.{byteOf, byteAt, alertAt, statusAt, possibleFrom, heldFrom, ruleIn, Fills, stateUnder, UnderEvery, UnderSome, SureAt}
 
 -- What is promised of rule i of a trace.
 pub record RuleJudged (tr : Trace) (i : ℕ) : Type 0 where
@@ -85,11 +86,20 @@ pub record ChargeJudged (tr : Trace) : Type 0 where
   pub reachedLeast : (f : ℕ → Sample) × Fills tr f × (netUnder tr f ≡ leastNet tr)
   pub reachedGreatest : (f : ℕ → Sample) × Fills tr f × (netUnder tr f ≡ greatestNet tr)
 
+-- What the report says at the end of a trace.
+pub record EndJudged (tr : Trace) : Type 0 where
+  -- cut at its last tick the trace is what it was, so the report's flags are those of that tick
+  pub lastTick : (t : ℕ) → suc t ≡ tr .ticks → cutAt tr t ≡ tr
+  -- where no tick is covered every rule is in state 0: all is clear
+  pub rulesClear : tr .ticks ≡ 0 → (i : ℕ) → i < 16 → (byteOf tr (10 * i) ≡ 0) × (byteOf tr (10 * i + 1) ≡ 0)
+  pub outputsClear : tr .ticks ≡ 0 → (byteOf tr 160 ≡ 0) × (byteOf tr 161 ≡ 0) × (byteOf tr 162 ≡ 0)
+
 -- Demand 3 of a trace.
 pub record TraceJudged (tr : Trace) : Type 0 where
   pub rules : (i : ℕ) → i < 16 → RuleJudged tr i
   pub outputs : OutputsJudged tr
   pub charge : ChargeJudged tr
+  pub end : EndJudged tr
 
 -- Demand 3: of all bytes that are accepted.
 abbrev pub Demand3 : Type 0

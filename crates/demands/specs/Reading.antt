@@ -11,9 +11,13 @@ use Rattle.ticks.specs.Traces.{Trace, shown, inHole}
 use Rattle.ticks.specs.Cut.{cutAt}
 use Rattle.demands.specs.Report.{traceReport}
 
+-- A byte of the report of a trace.
+abbrev pub byteOf : Trace → ℕ → ℕ
+byteOf tr place = getD (traceReport tr) place 0
+
 -- A byte of the report of the trace cut at a tick: what a flag or an output reads at that tick.
 abbrev pub byteAt : Trace → ℕ → ℕ → ℕ
-byteAt tr t place = getD (traceReport (cutAt tr t)) place 0
+byteAt tr t place = byteOf (cutAt tr t) place
 
 -- The alert of rule i at a tick.
 abbrev pub alertAt : Trace → ℕ → ℕ → ℕ

@@ -3,6 +3,7 @@ pub mod Integers
 pub mod Next
 pub mod Witness
 pub mod Reach
+pub mod Tests
 pub mod Exact
 pub mod Flags
 pub mod Sure

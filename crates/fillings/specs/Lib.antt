@@ -1,4 +1,5 @@
 pub mod Fillings
+pub mod Tests
 pub mod PossibleStates
 pub mod Flags
 pub mod Outputs

@@ -7,18 +7,18 @@ use native.Mathlib.Omega.{arith}
 use native.Mathlib.Numerals.{add-one}
 use lib.ListN.{length}
 use lib.Dec.{ltb, leb, eqb}
-use borrow.Author.Tests.{ltb-false, le-ltb, le-leb, lt-leb, eq-eqb, ne-eqb}
+use borrow.Author.Tests.{ltb-false, leb-false, le-ltb, le-leb, lt-leb, eq-eqb, ne-eqb}
 use Rattle.refusals.specs.Refusals.{answer}
 use Rattle.trace.specs.Records.{Hole, Reply, Stamped}
 use Rattle.trace.specs.Coverage.{holeNext, sampleNext, coverAnswer, repliesAnswer}
 use Rattle.trace.proofs.Answers.{unless}
 use Rattle.ticks.specs.Traces.{Trace, shownIn, hasSample, Accepted}
-use Rattle.ticks.specs.Cut.{cutHoles, cutReplies, cutSamples}
+use Rattle.ticks.specs.Cut.{cutHoles, cutReplies, cutSamples, cutAt}
 use Rattle.ticks.specs.Promises.{CutHolds}
 use Rattle.ticks.proofs.Tests.{by-order, or-false}
 use Rattle.ticks.proofs.AscendingHoles.{Ascending, ascending, in-order, lower}
 use Rattle.ticks.specs.Places.{NotYet, Place, done, hole, sample}
-use Rattle.ticks.proofs.Places.{place-start, no-sample-before, not-yet, ascends-later}
+use Rattle.ticks.proofs.Places.{place-low, place-start, no-sample-before, not-yet, ascends-later}
 
 cut-ascends : (t : ℕ) (hs : List Hole) (low : ℕ) → Ascending low hs → Ascending low (cutHoles t hs)
 unfolding cutHoles
@@ -113,6 +113,37 @@ cut-shows t (x ∷ xs) u l =
     (λ n. rw (lt-leb (x .tick) t n, ne-eqb (x .tick) u (λ z. omega arith)) (cut-shows t xs u l))
     (λ n. rw (le-leb (x .tick) t n, cut-shows t xs u l))
 
+-- Cut at its last tick a trace keeps every record.
+kept-holes : {m : ℕ} (t : ℕ) → suc t ≡ m → (hs : List Hole) (xs : List Stamped) (e : ℕ) → Place m hs xs e → cutHoles t hs ≡ hs
+unfolding cutHoles
+kept-holes t n [] [] e done = refl
+kept-holes t n (h ∷ hs) xs e (hole a b c p) =
+    let l = place-low hs xs (suc (h .last)) p in
+    let z : min (h .last) t ≡ h .last = omega arith in
+    rw (le-leb (h .first) t (omega arith), z, kept-holes t n hs xs (suc (h .last)) p)
+kept-holes t n hs (x ∷ xs) e (sample a b c p) = kept-holes t n hs xs (suc e) p
+
+kept-samples : {m : ℕ} (t : ℕ) → suc t ≡ m → (hs : List Hole) (xs : List Stamped) (e : ℕ) → Place m hs xs e → cutSamples t xs ≡ xs
+unfolding cutSamples
+kept-samples t n [] [] e done = refl
+kept-samples t n (h ∷ hs) xs e (hole a b c p) = kept-samples t n hs xs (suc (h .last)) p
+kept-samples t n hs (x ∷ xs) e (sample a b c p) =
+    let l = place-low hs xs (suc e) p in
+    rw (le-leb (x .tick) t (omega arith), kept-samples t n hs xs (suc e) p)
+
+kept-replies : (t m : ℕ) → suc t ≡ m → (rs : List Reply) (i low : ℕ) → repliesAnswer m rs i low ≡ answer tt → cutReplies t rs ≡ rs
+unfolding repliesAnswer cutReplies
+kept-replies t m n [] i low e = refl
+kept-replies t m n (r ∷ rs) i low e =
+    let p = unless (ltb (r .tick) low || leb m (r .tick)) 10 i _ e in
+    let l = leb-false m (r .tick) (or-false (ltb (r .tick) low) _ (p .0) .1) in
+    rw (le-leb (r .tick) t (omega arith), kept-replies t m n rs (suc i) (r .tick) (p .1))
+
+kept-whole : (tr : Trace) → Accepted tr → (t : ℕ) → suc t ≡ tr .ticks → cutAt tr t ≡ tr
+kept-whole tr ok t n =
+    let p = place-start tr ok in
+    rw (n, kept-holes t n (tr .holes) (tr .samples) 0 p, kept-samples t n (tr .holes) (tr .samples) 0 p, kept-replies t (tr .ticks) n (tr .replies) 0 0 (ok .replies))
+
 pub cut-holds : (tr : Trace) → Accepted tr → CutHolds tr
 cut-holds tr ok =
     let o = ascending (tr .holes) 0 0 (ok .holes) in
@@ -126,4 +157,5 @@ cut-holds tr ok =
             replies = cut-replies t (tr .ticks) (tr .replies) 0 0 0 0 (omega arith) (ok .replies);
           };
       same = λ t u l. cut-shows t (tr .samples) u l;
+      whole = kept-whole tr ok;
     }

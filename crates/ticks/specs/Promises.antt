@@ -40,7 +40,8 @@ MissingSecond =
     → hasSample (traceOf s w .samples) t ≡ false → inHole (traceOf s w .holes) t ≡ false
     → ¬ (acceptAnswer s report verdicts ≡ answer w)
 
--- The trace cut at a covered tick is accepted and shows the same up to that tick.
+-- The trace cut at a covered tick is accepted and shows the same up to that tick; cut at its last tick it is the trace.
 pub record CutHolds (tr : Trace) : Type 0 where
   pub accepted : (t : ℕ) → t < tr .ticks → Accepted (cutAt tr t)
   pub same : (t u : ℕ) → u ≤ t → shown (cutAt tr t) u ≡ shown tr u
+  pub whole : (t : ℕ) → suc t ≡ tr .ticks → cutAt tr t ≡ tr
