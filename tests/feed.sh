@@ -14,14 +14,11 @@ for program in "$judge" "$feed"; do
     echo "feed: there is no $program"
     exit 1
 done
-mkdir -p target/tools "$out" || exit 1
+mkdir -p "$out" || exit 1
 
 # The generator of tests/second_program.sh.
-if ! [ -x "$second" ]; then
-    . tools/static_library.sh
-    static_library buttmitrel || exit 1
-    rustc --edition 2021 -O -o "$second" tools/second/main.rs -L native=target/staticlib -l static=buttmitrel || exit 1
-fi
+. tools/static_library.sh
+second_program || exit 1
 
 # What the feed writes where the judge writes this.
 as_fed() {

@@ -10,10 +10,8 @@ if ! [ -x "$program" ]; then
     echo "second_program: there is no $program"
     exit 1
 fi
-mkdir -p target/tools
 . tools/static_library.sh
-static_library buttmitrel
-rustc --edition 2021 -O -o "$tool" tools/second/main.rs -L native=target/staticlib -l static=buttmitrel
+second_program
 
 echo "second_program: seed $seed"
 "$tool" cases

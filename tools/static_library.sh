@@ -1,13 +1,31 @@
-# Builds the static libraries that are named, where they are missing or older than a source. Sourced from the repository's root.
-static_library() { # CRATE...
+# Builds what several tests share, where it is missing or older than a source; one at a time, so that tests can run side by side.
+# Sourced from the repository's root.
+
+static_library() { # CRATE...: the static libraries of these crates
     local crate
     mkdir -p target/staticlib target/log
     for crate in "$@"; do
-        local archive=target/staticlib/lib$crate.a
-        if [ -f "$archive" ] && [ -z "$(find crates crates.txt -newer "$archive" -print -quit)" ]; then continue; fi
-        rt staticlib "$crate" >target/log/staticlib 2>&1 || {
-            cat target/log/staticlib
-            return 1
-        }
+        (flock 8 && build_library "$crate") 8>target/staticlib/lock || return 1
     done
+}
+
+build_library() { # CRATE
+    local archive=target/staticlib/lib$1.a
+    if [ -f "$archive" ] && [ -z "$(find crates crates.txt -newer "$archive" -print -quit)" ]; then return; fi
+    rt staticlib "$1" >target/log/staticlib 2>&1 || {
+        cat target/log/staticlib
+        return 1
+    }
+}
+
+second_program() { # target/tools/second, which links the library
+    static_library buttmitrel || return 1
+    mkdir -p target/tools
+    (flock 8 && build_second) 8>target/tools/second.lock
+}
+
+build_second() {
+    local out=target/tools/second
+    if [ -x "$out" ] && [ -z "$(find tools/second target/staticlib/libbuttmitrel.a -newer "$out" -print -quit)" ]; then return; fi
+    rustc --edition 2021 -O -o "$out" tools/second/main.rs -L native=target/staticlib -l static=buttmitrel
 }
