@@ -1,11 +1,11 @@
-# Builds what several tests share, where it is missing or older than a source; one at a time, so that tests can run side by side.
-# Sourced from the repository's root.
+# Builds what several tests share, where it is missing or older than a source. Tests can run side by side: a library is built by the
+# first that asks, and a caller that needs both asks for buttmitrel first. Sourced from the repository's root.
 
 static_library() { # CRATE...: the static libraries of these crates
     local crate
     mkdir -p target/staticlib target/log
     for crate in "$@"; do
-        (flock 8 && build_library "$crate") 8>target/staticlib/lock || return 1
+        (flock 8 && build_library "$crate") 8>"target/staticlib/$crate.lock" || return 1
     done
 }
 

@@ -17,11 +17,11 @@ use Rattle.rules.specs.Evaluation.{top, status}
 use Rattle.fillings.specs.Flags.{flag, notClear, isHeld}
 use Rattle.states.specs.Records.{statesOf, ruleWords}
 use Rattle.states.specs.Steps.{settingOf}
-use Rattle.states.specs.Readings as readings
+use Rattle.states.specs.Readings.{statusOf, statusIn}
 use Rattle.states.proofs.OneRule.{status-of-rule}
 use Rattle.states.proofs.RuleWords.{getD-tabulate}
 use Rattle.first_ticks.proofs.FirstLaws.{noted-same}
-use Rattle.first_ticks.specs.Firsts.{none, noted, statusIn, notedSeen, firstUnseen, notedUnseen}
+use Rattle.first_ticks.specs.Firsts.{none, noted, notedSeen, firstUnseen, notedUnseen}
 
 noted-none : (x f : ℕ) → f ≡ none → noted x f ≡ x
 noted-none x f e = ap (λ (b : Bool). cond b x f) (eq-eqb f none e)
@@ -54,8 +54,8 @@ entry-clear fs i tick e =
 
 -- The entry of a rule after a seen tick, from its status in a record that has the words of the end.
 pub entry-seen : (kind : Flag → Bool) (ws end fs out : List ℕ) (i tick : ℕ) (s : Setting) (f : Flag) → length ws ≡ 80 → i < 16
-    → f ≡ readings.statusIn s i ws → ruleWords ws i ≡ ruleWords end i → out ≡ set fs i (noted (cond (kind f) tick none) (getD fs i 0))
-    → out ≡ set fs i (noted (cond (kind (statusIn s i end)) tick none) (getD fs i 0))
+    → f ≡ statusIn s i ws → ruleWords ws i ≡ ruleWords end i → out ≡ set fs i (noted (cond (kind f) tick none) (getD fs i 0))
+    → out ≡ set fs i (noted (cond (kind (statusOf s i end)) tick none) (getD fs i 0))
 entry-seen kind ws end fs out i tick s f long rule ef ew eo =
     eo
     ∙ ap (λ (x : Flag). set fs i (noted (cond (kind x) tick none) (getD fs i 0)))
@@ -93,7 +93,7 @@ module _ (found : ℕ → ℕ) (fs₀ : List ℕ) where
 
 -- What a seen tick is to the entry of a rule, and what a run of unseen ticks is.
 abbrev pub seenEntry : (Flag → Bool) → List Setting → ℕ → List ℕ → ℕ → ℕ
-seenEntry kind ss tick ws i = cond (kind (statusIn (settingOf ss i) i ws)) tick none
+seenEntry kind ss tick ws i = cond (kind (statusOf (settingOf ss i) i ws)) tick none
 
 abbrev pub unseenEntry : List Setting → ℕ → ℕ → List ℕ → ℕ → ℕ
 unseenEntry ss first last ws i = firstUnseen first last (settingOf ss i) i ws

@@ -13,10 +13,11 @@ use Rattle.fillings.specs.PossibleStates.{tabulate, unseenTimes}
 use Rattle.fillings.specs.Flags.{flag, statusFlag, notClear, isHeld, firstFrom}
 use Rattle.fillings.proofs.Still.{possible-hole}
 use Rattle.states.specs.Steps.{settingOf, setOf, evaluationsOf}
+use Rattle.states.specs.Readings.{statusOf}
 use Rattle.states.specs.Tracking.{recordAt, ShortTimes}
 use Rattle.states.proofs.RuleWords.{getD-tabulate}
 use Rattle.states.proofs.Tracking.{set-at}
-use Rattle.first_ticks.specs.Firsts.{none, noted, statusIn, notedSeen, firstUnseen, notedUnseen}
+use Rattle.first_ticks.specs.Firsts.{none, noted, notedSeen, firstUnseen, notedUnseen}
 use Rattle.first_ticks.specs.Tracking.{possibleAt, heldAt, FirstsTracked}
 use Rattle.first_ticks.proofs.FirstLaws.{first-parts, first-snoc, first-same}
 use Rattle.first_ticks.proofs.HeldInHoles.{held-over-hole}
@@ -38,7 +39,7 @@ module _ (p : Pack) (short : ShortTimes p) (trace : ℕ → Shown) where
   abbrev statusOver : ℕ → List Bool → Flag
   statusOver i = flag (last (ruleOf p i)) (status (last (ruleOf p i)))
 
-  status-at : (k i : ℕ) → i < 16 → statusIn (settingOf (p .settings) i) i (recordAt p trace k) ≡ statusFlag (ruleOf p i) trace k
+  status-at : (k i : ℕ) → i < 16 → statusOf (settingOf (p .settings) i) i (recordAt p trace k) ≡ statusFlag (ruleOf p i) trace k
   status-at k i h = ap (statusOver i) (set-at p short trace k i h)
 
   -- the first ticks of a kind of status among the first k ticks
@@ -49,7 +50,7 @@ module _ (p : Pack) (short : ShortTimes p) (trace : ℕ → Shown) where
       → notedSeen kind (p .settings) k (recordAt p trace (suc k)) (tabulate 16 (firstsOf kind k)) ≡ tabulate 16 (firstsOf kind (suc k))
   unfolding notedSeen
   sees kind k h =
-      noted-each (λ i. cond (kind (statusIn (settingOf (p .settings) i) i (recordAt p trace (suc k)))) k none) (firstsOf kind k) (firstsOf kind (suc k))
+      noted-each (λ i. cond (kind (statusOf (settingOf (p .settings) i) i (recordAt p trace (suc k)))) k none) (firstsOf kind k) (firstsOf kind (suc k))
       (λ i l.
       ap (λ f. noted (cond (kind f) k none) (firstsOf kind k i)) (status-at (suc k) i l)
       ∙ sym (first-snoc k (λ t. kind (statusFlag (ruleOf p i) trace (suc t))) h))

@@ -13,7 +13,7 @@ use Rattle.rules.specs.Table.{rowAt}
 use Rattle.flags.specs.declared.Flag.{Flag}
 use Rattle.fillings.specs.Flags.{notClear, isHeld}
 use Rattle.states.specs.Steps.{settingOf, afterSeenRule, afterSeen}
-use Rattle.states.specs.Readings as readings
+use Rattle.states.specs.Readings.{statusIn}
 use Rattle.states.proofs.EachRule.{moving-start, moving-length}
 use Rattle.states.proofs.RuleSteps.{Seeing, seeing-next, seeing-done, seeing-end, rule-seen}
 use Rattle.first_ticks.specs.Firsts.{none, noted, notedSeen}
@@ -33,7 +33,7 @@ module _ (ss : List Setting) (idle tick : ℕ) (r : Readings) (ws₀ ps₀ hs₀
   watching-length ws ps hs i w = moving-length _ _ ws₀ ws i (w .states)
 
   pub watching-next : (ws ps hs ws′ ps′ hs′ : List ℕ) (i : ℕ) (row : Row) (f : Flag) → row ≡ rowAt i → Watching ss idle tick r ws₀ ps₀ hs₀ ws ps hs i → i < 16
-      → ws′ ≡ afterSeenRule row (settingOf ss i) idle tick r i ws → f ≡ readings.statusIn (settingOf ss i) i ws′
+      → ws′ ≡ afterSeenRule row (settingOf ss i) idle tick r i ws → f ≡ statusIn (settingOf ss i) i ws′
       → ps′ ≡ set ps i (noted (cond (notClear f) tick none) (getD ps i 0)) → hs′ ≡ set hs i (noted (cond (isHeld f) tick none) (getD hs i 0))
       → Watching ss idle tick r ws₀ ps₀ hs₀ ws′ ps′ hs′ (i + 1)
   watching-next ws ps hs ws′ ps′ hs′ i row f er w h ew ef ep eh =

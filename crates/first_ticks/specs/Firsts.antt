@@ -11,6 +11,7 @@ use Rattle.flags.specs.declared.Flag.{Flag}
 use Rattle.fillings.specs.PossibleStates.{tabulate, unseenTimes}
 use Rattle.fillings.specs.Flags.{flag, notClear, firstFrom}
 use Rattle.states.specs.Steps.{settingOf, setOf, evaluationsOf}
+use Rattle.states.specs.Readings.{statusOf}
 
 -- No tick.
 abbrev pub none : ℕ
@@ -20,14 +21,10 @@ none = 0xFFFFFFFF
 abbrev pub noted : ℕ → ℕ → ℕ
 noted found first = cond (eqb first none) found first
 
--- The status of rule i in a record of possible states.
-abbrev pub statusIn : Setting → ℕ → List ℕ → Flag
-statusIn s i ws = flag (top (s .time)) (status (top (s .time))) (setOf s i ws)
-
 -- The first ticks of a kind of status after a seen tick, from the record after it.
 unfoldable pub notedSeen : (Flag → Bool) → List Setting → ℕ → List ℕ → List ℕ → List ℕ
 notedSeen kind ss tick ws fs =
-    tabulate 16 (λ i. noted (cond (kind (statusIn (settingOf ss i) i ws)) tick none) (getD fs i 0))
+    tabulate 16 (λ i. noted (cond (kind (statusOf (settingOf ss i) i ws)) tick none) (getD fs i 0))
 
 -- The first of the unseen ticks from first to last at which the status of rule i is held or unknown, from the record before them.
 abbrev pub firstUnseen : ℕ → ℕ → Setting → ℕ → List ℕ → ℕ

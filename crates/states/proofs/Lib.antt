@@ -16,4 +16,5 @@ pub mod Gaps
 pub mod OffRules
 pub mod Tracking
 pub mod ValidWords
+pub mod Determined
 pub mod KeptValid

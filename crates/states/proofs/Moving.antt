@@ -13,10 +13,10 @@ use borrow.Author.Tests.{lt-ltb, le-ltb, eq-eqb, ne-eqb}
 use Rattle.fillings.specs.PossibleStates.{someBelow, has, Moves, next}
 use Rattle.fillings.proofs.Bools.{and-left, and-right, both, some-intro, some-elim, has-tabulate, bool-ext}
 use Rattle.fillings.proofs.Next.{next-length, next-zero, next-between, next-top}
-use Rattle.states.specs.Records.{at, statesOf, wordsOf}
+use Rattle.states.specs.Records.{at, Fit64, statesOf, wordsOf}
 use Rattle.states.specs.Words.{Below, Raised, With}
 use Rattle.states.proofs.Bits.{below?}
-use Rattle.states.proofs.Packing.{Fit64, same-words, wordsOf-length, wordsOf-fit, at-wordsOf}
+use Rattle.states.proofs.Packing.{same-words, wordsOf-length, wordsOf-fit, at-wordsOf}
 
 pub has-states : (w : List ℕ) (m s : ℕ) → s ≤ m → has (statesOf w m) s ≡ at w s
 unfolding statesOf

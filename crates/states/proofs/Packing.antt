@@ -13,7 +13,7 @@ use lib.Seq.{getD-take, getD-drop, ext-getD}
 use borrow.Author.Tests.{eqb-true, eqb-false}
 use Rattle.fillings.specs.PossibleStates.{tabulate, someBelow, has}
 use Rattle.fillings.proofs.Bools.{has-tabulate, length-tabulate}
-use Rattle.states.specs.Records.{bit, at, statesOf, wordOf, wordsOf}
+use Rattle.states.specs.Records.{bit, at, Fit64, statesOf, wordOf, wordsOf}
 use Rattle.states.proofs.Bits.{bit-double, bit-zero, below?}
 
 digit : (b : Bool) → cond b 1 0 < 2
@@ -69,10 +69,6 @@ same-bits (suc k) a b h g e =
     let t : 2 ^ suc k ≡ 2 ^ k * 2 = pow-suc 2 k in
     let q : a / 2 ≡ b / 2 = same-bits k (a / 2) (b / 2) (omega arith) (omega arith) (λ r l. half a r ∙ e (suc r) (omega arith) ∙ sym (half b r)) in
     omega arith
-
--- Every word of a list fits 64 bits.
-abbrev pub Fit64 : List ℕ → Type 0
-Fit64 w = (j : ℕ) → getD w j 0 < 2 ^ 64
 
 -- Five words with the same bits are the same.
 pub same-words : (a b : List ℕ) → length a ≡ 5 → length b ≡ 5 → Fit64 a → Fit64 b → ((p : ℕ) → p < 320 → at a p ≡ at b p) → a ≡ b

@@ -21,7 +21,7 @@ getD-tabulate zero f d i h = absurd (omega arith)
 getD-tabulate (suc n) f d zero h = refl
 getD-tabulate (suc n) f d (suc i) h = getD-tabulate n (λ j. f (suc j)) d i (omega arith)
 
-part : (ws : List ℕ) (k j : ℕ) → j < 5 → getD (take 5 (drop k ws)) j 0 ≡ getD ws (k + j) 0
+pub part : (ws : List ℕ) (k j : ℕ) → j < 5 → getD (take 5 (drop k ws)) j 0 ≡ getD ws (k + j) 0
 part ws k j h = getD-take 5 (drop k ws) j 0 h ∙ getD-drop k ws j 0
 
 pub part-length : (ws : List ℕ) (k : ℕ) → k + 5 ≤ length ws → length (take 5 (drop k ws)) ≡ 5

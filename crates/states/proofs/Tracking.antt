@@ -20,7 +20,7 @@ use Rattle.fillings.proofs.Still.{possible-length, possible-hole}
 use Rattle.states.specs.Records.{at, statesOf, wordsOf, ruleWords, recordWith, packed, fresh}
 use Rattle.states.specs.Steps.{settingOf, setOf, movesAt, seenWords, afterSeen, evaluationsOf, movesBetween, unseenWords, afterUnseen}
 use Rattle.states.specs.Readings.{flagsOf, allFlags}
-use Rattle.states.specs.Tracking.{recordAt, ShortTimes, Tracks, Determined}
+use Rattle.states.specs.Tracking.{recordAt, ShortTimes, Tracks}
 use Rattle.states.proofs.Packing.{wordsOf-length, states-words}
 use Rattle.states.proofs.AtZero.{start-words}
 use Rattle.states.proofs.RuleWords.{getD-tabulate, record-length, record-at}
@@ -29,11 +29,6 @@ use Rattle.states.proofs.RuleSteps.{seen-done, unseen-done}
 use Rattle.states.proofs.RuleFlagLaws.{unknown}
 use Rattle.states.proofs.OffRules.{off-possible}
 use Rattle.states.proofs.Tops.{top-fits}
-
-pub determined : Determined
-determined f g e =
-    record-same (λ i. true) (λ i. true) (λ i. wordsOf (f i)) (λ i. wordsOf (g i)) [] []
-    (λ k h. ap (λ (p : List Bool). getD (wordsOf p) (k % 5) 0) (e (k / 5) (omega arith)))
 
 packed-length : (f : ℕ → List Bool) → length (packed f) ≡ 80
 packed-length f = record-length (λ i. true) (λ i. wordsOf (f i)) []

@@ -25,10 +25,13 @@ allFlags ss ws =
     (tabulate 16 (λ i. flagsOf (top (settingOf ss i .time)) (setOf (settingOf ss i) i ws)))
     (tabulate 16 (λ i. record { alert = Unknown; status = Unknown }))
 
--- The status of rule i; unknown where it is no rule or the list is not eighty words long.
+-- The status of rule i in a record.
+abbrev pub statusOf : Setting → ℕ → List ℕ → Flag
+statusOf s i ws = flag (top (s .time)) (status (top (s .time))) (setOf s i ws)
+
+-- The same; unknown where it is no rule or the list is not eighty words long.
 unfoldable pub statusIn : Setting → ℕ → List ℕ → Flag
-statusIn s i ws =
-    cond (eqb (length ws) 80 && ltb i 16) (flag (top (s .time)) (status (top (s .time))) (setOf s i ws)) Unknown
+statusIn s i ws = cond (eqb (length ws) 80 && ltb i 16) (statusOf s i ws) Unknown
 
 -- Whether state s of rule i is possible.
 unfoldable pub allowed : List ℕ → ℕ → ℕ → Bool

@@ -1,5 +1,5 @@
 -- Paper 01, 'The form for each place': the possible states of all rules in one record, a flat array of eighty words of 64 bits, five a rule.
-use Prim.Native.Nat.{ℕ, _+_, _*_, _^_, _/_, _%_, suc}
+use Prim.Native.Nat.{ℕ, suc, _+_, _*_, _^_, _/_, _%_, _<_}
 use mathlib.Core.Bool.{Bool, true, cond}
 use mathlib.Core.List.{List, [], _∷_}
 use lib.Dec.{eqb}
@@ -13,6 +13,10 @@ bit w r = eqb (w / 2 ^ r % 2) 1
 -- Bit p of a list of words, the lowest word first.
 unfoldable pub at : List ℕ → ℕ → Bool
 at ws p = bit (getD ws (p / 64) 0) (p % 64)
+
+-- Every word of a list fits 64 bits.
+abbrev pub Fit64 : List ℕ → Type 0
+Fit64 w = (j : ℕ) → getD w j 0 < 2 ^ 64
 
 -- The set of the states 0 to m that five words hold: state s is bit s.
 unfoldable pub statesOf : List ℕ → ℕ → List Bool

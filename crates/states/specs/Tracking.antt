@@ -1,15 +1,17 @@
 -- The record of a trace's possible states, and its flags: what the steps keep and the readings give.
 use Prim.Native.Nat.{ℕ, suc, _≤_, _<_}
 use mathlib.Core.Path.{_≡_}
-use mathlib.Core.Bool.{Bool}
 use mathlib.Core.List.{List}
+use lib.Dec.{T}
+use Rattle.rules.specs.declared.Setting.{Setting}
 use Rattle.rules.specs.Samples.{Sample, readingsOf}
 use Rattle.fillings.specs.Fillings.{Shown, seen, unseen, Pack, ruleOf}
 use Rattle.fillings.specs.PossibleStates.{tabulate, possible}
 use Rattle.fillings.specs.Flags.{alertFlag, statusFlag}
-use Rattle.states.specs.Records.{packed, fresh}
-use Rattle.states.specs.Steps.{settingOf, afterSeen, afterUnseen}
+use Rattle.states.specs.Records.{Fit64, packed, fresh}
+use Rattle.states.specs.Steps.{settingOf, setOf, afterSeen, afterUnseen}
 use Rattle.states.specs.Readings.{allFlags}
+use Rattle.states.specs.Validity.{validRecord}
 
 -- The record of the possible states once the first k ticks have passed.
 abbrev pub recordAt : Pack → (ℕ → Shown) → ℕ → List ℕ
@@ -28,6 +30,7 @@ pub record Tracks (p : Pack) (trace : ℕ → Shown) : Type 0 where
   pub reads : (k : ℕ) → allFlags (p .settings) (recordAt p trace k)
       ≡ tabulate 16 (λ i. record { alert = alertFlag (ruleOf p i) trace k; status = statusFlag (ruleOf p i) trace k })
 
--- Records of sixteen sets that allow the same states are the same record.
+-- Valid records that allow the same states are the same record: no bit is spare.
 abbrev pub Determined : Type 0
-Determined = (f g : ℕ → List Bool) → ((i : ℕ) → i < 16 → f i ≡ g i) → packed f ≡ packed g
+Determined = (ss : List Setting) (v w : List ℕ) → Fit64 v → Fit64 w → T (validRecord ss v) → T (validRecord ss w)
+    → ((i : ℕ) → i < 16 → setOf (settingOf ss i) i v ≡ setOf (settingOf ss i) i w) → v ≡ w
