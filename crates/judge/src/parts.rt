@@ -15,6 +15,7 @@ ghost use Rattle.judge.specs.Walk.{packOf, shows, startOf, AtPoint};
 ghost use Rattle.judge.specs.Ending.{Parts};
 use crate::ending::totals_of;
 use crate::ending::write_end;
+use crate::replies::Pack;
 use crate::replies::Point;
 use crate::replies::judge_replies;
 use crate::replies::start_at;
@@ -41,13 +42,16 @@ fn judge_parts(
     let mut possible = [0xFFFFFFFFu32; 16];
     let mut held = [0xFFFFFFFFu32; 16];
     let start = start_at(holes, samples, cells, settings, &words);
+    let pack = Pack {
+        cells,
+        idle,
+        settings,
+    };
     judge_replies(
         holes,
         samples,
         replies,
-        cells,
-        idle,
-        settings,
+        pack,
         ticks,
         start,
         &mut words,

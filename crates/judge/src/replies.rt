@@ -9,7 +9,7 @@ ghost use Rattle.trace.specs.Coverage.{repliesAnswer};
 ghost use Rattle.states.specs.Readings.{allFlags};
 ghost use Rattle.verdicts.specs.Verdicts.{verdictOf};
 ghost use Rattle.demands.specs.Verdicts.{verdictOn};
-ghost use Rattle.judge.specs.Walk.{packOf, shows, alarmsOf, startOf, AtPoint, Reached, Known};
+ghost use Rattle.judge.specs.Walk.{packIn, shows, alarmsOf, startOf, AtPoint, Reached, Known};
 use crate::walk::Cursor;
 use crate::walk::advance;
 use flags::Output;
@@ -28,6 +28,13 @@ fn alarms_in(words: &[u64], settings: Settings) -> Alarms
         over_temp: flags::output_of(flags, Output::OverTempAlarm),
         terminate_discharge: flags::output_of(flags, Output::TerminateDischargeAlarm),
     }
+}
+
+// The head and the rules of a trace.
+pub(crate) struct Pack {
+    pub(crate) cells: u8,
+    pub(crate) idle: u16,
+    pub(crate) settings: Settings,
 }
 
 // Where the walk stands, with the bits of BatteryStatus there.
@@ -63,27 +70,26 @@ pub(crate) fn start_at(
 fn reach(
     holes: &[u8],
     samples: &[u8],
-    cells: u8,
-    idle: u16,
-    settings: Settings,
+    pack: Pack,
     at: Point,
     to: u32,
     words: &mut [u64],
     possible: &mut [u32],
     held: &mut [u32],
 ) -> Point
-    requires { ⌜ ((m : ℕ) × AtPoint (packOf cells idle (settings .of)) (now holes) (now samples) m at (now words) (now possible) (now held) × (at .cursor .tick ≤ to) × (to ≤ m)) ⌝ }
-    ensures { λ r. ⌜ ((m : ℕ) → AtPoint (packOf cells idle (settings .of)) (now (holes .entry)) (now (samples .entry)) m at (now (words .entry)) (now (possible .entry)) (now (held .entry)) → to ≤ m → Reached (packOf cells idle (settings .of)) (now (holes .entry)) (now (samples .entry)) m r to (now (words .exit)) (now (possible .exit)) (now (held .exit))) ⌝ }
+    requires { ⌜ ((m : ℕ) × AtPoint (packIn pack) (now holes) (now samples) m at (now words) (now possible) (now held) × (at .cursor .tick ≤ to) × (to ≤ m)) ⌝ }
+    ensures { λ r. ⌜ ((m : ℕ) → AtPoint (packIn pack) (now (holes .entry)) (now (samples .entry)) m at (now (words .entry)) (now (possible .entry)) (now (held .entry)) → to ≤ m → Reached (packIn pack) (now (holes .entry)) (now (samples .entry)) m r to (now (words .exit)) (now (possible .exit)) (now (held .exit))) ⌝ }
 {
     let c = at.cursor;
     if to <= c.tick {
         return at;
     }
+    let settings = pack.settings;
     let cursor = advance(
         holes,
         samples,
-        cells,
-        idle,
+        pack.cells,
+        pack.idle,
         settings,
         c,
         to,
@@ -118,9 +124,7 @@ pub(crate) fn judge_replies(
     holes: &[u8],
     samples: &[u8],
     replies: &[u8],
-    cells: u8,
-    idle: u16,
-    settings: Settings,
+    pack: Pack,
     ticks: u32,
     start: Point,
     words: &mut [u64],
@@ -128,43 +132,21 @@ pub(crate) fn judge_replies(
     held: &mut [u32],
     verdicts: &mut [u8],
 )
-    requires { ⌜ AtPoint (packOf cells idle (settings .of)) (now holes) (now samples) ticks start (now words) (now possible) (now held) × (start .cursor .tick ≤ 1) × (repliesAnswer ticks (repliesIn (now replies)) 0 0 ≡ answer tt) × (length (now verdicts) ≡ length (now replies) / 10) × (length (now replies) ≤ 655350) ⌝ }
-    ensures known { λ _. ⌜ Known (packOf cells idle (settings .of)) (now (samples .entry)) ticks (now (words .exit)) (now (possible .exit)) (now (held .exit)) ⌝ }
-    ensures verdicts { λ _. ⌜ now (verdicts .exit) ≡ map (verdictOn (packOf cells idle (settings .of)) (shows (packOf cells idle (settings .of)) (now (samples .entry)))) (repliesIn (now (replies .entry))) ⌝ }
+    requires { ⌜ AtPoint (packIn pack) (now holes) (now samples) ticks start (now words) (now possible) (now held) × (start .cursor .tick ≤ 1) × (repliesAnswer ticks (repliesIn (now replies)) 0 0 ≡ answer tt) × (length (now verdicts) ≡ length (now replies) / 10) × (length (now replies) ≤ 655350) ⌝ }
+    ensures known { λ _. ⌜ Known (packIn pack) (now (samples .entry)) ticks (now (words .exit)) (now (possible .exit)) (now (held .exit)) ⌝ }
+    ensures verdicts { λ _. ⌜ now (verdicts .exit) ≡ map (verdictOn (packIn pack) (shows (packIn pack) (now (samples .entry)))) (repliesIn (now (replies .entry))) ⌝ }
 {
     let mut x = start;
     let mut j: usize = 0;
     while j < verdicts.len() {
         let at = j * 10;
         let to = bytes_le::u32_at(replies, at) + 1;
-        x = reach(
-            holes,
-            samples,
-            cells,
-            idle,
-            settings,
-            x,
-            to,
-            words,
-            possible,
-            held,
-        );
+        x = reach(holes, samples, pack, x, to, words, possible, held);
         let c = x.cursor;
         let shown = c.shown;
         let alarms = x.alarms;
         verdicts[j] = verdict_on(shown, alarms, &replies[at + 4..at + 10]);
         j += 1;
     }
-    reach(
-        holes,
-        samples,
-        cells,
-        idle,
-        settings,
-        x,
-        ticks,
-        words,
-        possible,
-        held,
-    );
+    reach(holes, samples, pack, x, ticks, words, possible, held);
 }
