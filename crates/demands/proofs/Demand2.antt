@@ -16,6 +16,8 @@ use Rattle.flags.specs.declared.Output.{Output}
 use Rattle.flags.specs.declared.Output.the-variants.{ChargeOpen, DischargeOpen, Fuse, TerminateChargeAlarm, OverTempAlarm, TerminateDischargeAlarm}
 use Rattle.flags.specs.Flags.{numberOf, withNext}
 use Rattle.flags.specs.Outputs.{drivers, outputOf, activeOf}
+use Rattle.verdicts.specs.declared.Alarms.{Alarms}
+use Rattle.verdicts.specs.Verdicts.{verdictOf}
 use Rattle.trace.specs.Records.{Reply}
 use Rattle.trace.specs.Sections.{samplesPart}
 use Rattle.trace.specs.Coverage.{repliesAnswer}
@@ -28,7 +30,7 @@ use Rattle.ticks.specs.Traces.{Trace, traceOf, shown, Accepted}
 use Rattle.ticks.proofs.AcceptedBytes.{accepted}
 use Rattle.ticks.proofs.Tests.{or-false}
 use Rattle.ticks.proofs.CoveredOnce.{covered-once}
-use Rattle.demands.specs.Verdicts.{verdictOn, traceVerdicts}
+use Rattle.demands.specs.Verdicts.{tickOf, verdictOn, traceVerdicts}
 use Rattle.demands.specs.Reading.{ruleIn, Fills, UnderEvery, UnderSome}
 use Rattle.demands.specs.Demand3.{outputAt}
 use Rattle.demands.specs.Demand2.{runState, runActive, runOutput, runVerdict, RunJudged, TotalsJudged, Demand2}
@@ -73,6 +75,12 @@ by-test : {A : Type 0} (b : Bool) (n x y : A) → (T b → n ≡ x) → (T (not 
 by-test true n x y f g = f tt
 by-test false n x y f g = g tt
 
+abbrev alarms : Flag → Flag → Flag → Alarms
+alarms a b c = record { «terminate_charge» = a; «over_temp» = b; «terminate_discharge» = c }
+
+same-alarms : {a a′ b b′ c c′ : Flag} → a ≡ a′ → b ≡ b′ → c ≡ c′ → alarms a b c ≡ alarms a′ b′ c′
+same-alarms d e f = rw (d, e, f)
+
 -- With no hole what is so of the run is so under every filling, and under some.
 module _ (tr : Trace) (ok : Accepted tr) (none : tr .holes ≡ []) where
   a-filling : Fills tr (λ t. blank (tr .pack .cells))
@@ -103,7 +111,8 @@ module _ (tr : Trace) (ok : Accepted tr) (none : tr .holes ≡ []) where
 
   verdict-run : (r : Reply) → r .tick < tr .ticks → verdictOn (tr .pack) (shown tr) r ≡ runVerdict tr r
   verdict-run r l =
-      rw (output-run TerminateChargeAlarm (r .tick) l, output-run OverTempAlarm (r .tick) l, output-run TerminateDischargeAlarm (r .tick) l)
+      ap (λ (a : Alarms). verdictOf (tickOf (shown tr (r .tick))) a (r .bytes))
+      (same-alarms (output-run TerminateChargeAlarm (r .tick) l) (output-run OverTempAlarm (r .tick) l) (output-run TerminateDischargeAlarm (r .tick) l))
 
   verdicts-run : (rs : List Reply) (i low : ℕ) → repliesAnswer (tr .ticks) rs i low ≡ answer tt → map (verdictOn (tr .pack) (shown tr)) rs ≡ map (runVerdict tr) rs
   unfolding repliesAnswer
