@@ -49,7 +49,7 @@ pub extern "C" fn buttmitrel_seal(command: u8, word: u16, reply: &mut [u8]) -> u
 {
     match pec::seal(command, word, reply) {
         Sealed::Written => 0,
-        Sealed::Unwritten(why) => code(why),
+        Sealed::Refused(why) => code(why),
     }
 }
 
@@ -59,10 +59,10 @@ pub extern "C" fn buttmitrel_check(reply: &[u8]) -> u64
     ensures { λ n. ⌜ n ≡ verdictCode (checkAnswer (now (reply .entry))) ⌝ }
 {
     match pec::check(reply) {
-        Checked::Whole => 0,
+        Checked::Intact => 0,
         Checked::WrongAddress => 1,
         Checked::WrongCode => 2,
-        Checked::Unchecked(why) => code(why),
+        Checked::Refused(why) => code(why),
     }
 }
 

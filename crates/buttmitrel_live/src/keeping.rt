@@ -175,7 +175,7 @@ pub(crate) fn report_state(state: Live, report: &mut [u8]) -> u64
             let firsts = AllFirstTicks { of: [none; 16] };
             match report::write_report(report, flags, firsts, counted) {
                 Reported::Written => 0,
-                Reported::Unwritten(why) => code(why),
+                Reported::Refused(why) => code(why),
             }
         }
     }

@@ -11,11 +11,11 @@ use Rattle.limits.specs.Limits.{settingsOf}
 use Rattle.limits.specs.Limits as L
 use Rattle.trace.specs.Records.{Hole, Reply, Stamped, sampleWidth, holesIn, repliesIn, samplesIn}
 use Rattle.trace.specs.Sections.{rulesPart, repliesPart, samplesPart}
-use Rattle.trace.specs.Acceptance.{Whole, recordsAnswer, acceptAnswer}
+use Rattle.trace.specs.Acceptance.{Parsed, recordsAnswer, acceptAnswer}
 use Rattle.trace.proofs.Layouts.{parts-are}
 use Rattle.trace.proofs.Walks.{Begun}
 use Rattle.trace.proofs.Outcomes as outcomes
-use Rattle.fillings.specs.Fillings.{Pack}
+use Rattle.fillings.specs.Fillings.{Config}
 use Rattle.ticks.specs.Traces.{Trace, traceOf, Accepted}
 use Rattle.ticks.specs.Cut.{cutAt}
 use Rattle.ticks.proofs.AscendingHoles.{ascending}
@@ -30,26 +30,26 @@ use Rattle.demands.proofs.AcceptedSections.{Walked, walked, holes-fit, 
 use Rattle.demands.proofs.WrittenSections.{Fits, SameStart, layoutWritten, Reads, written-starts, written-reads}
 
 -- Traces whose parts are equal.
-same-trace : {p p′ : Pack} {hs hs′ : List Hole} {rs rs′ : List Reply} {xs xs′ : List Stamped} (m : ℕ) → p ≡ p′ → hs ≡ hs′ → rs ≡ rs′ → xs ≡ xs′
-    → _≡_ {A = Trace} record { pack = p; holes = hs; replies = rs; samples = xs; ticks = m } record { pack = p′; holes = hs′; replies = rs′; samples = xs′; ticks = m }
+same-trace : {p p′ : Config} {hs hs′ : List Hole} {rs rs′ : List Reply} {xs xs′ : List Stamped} (m : ℕ) → p ≡ p′ → hs ≡ hs′ → rs ≡ rs′ → xs ≡ xs′
+    → _≡_ {A = Trace} record { config = p; holes = hs; replies = rs; samples = xs; ticks = m } record { config = p′; holes = hs′; replies = rs′; samples = xs′; ticks = m }
 same-trace m a b c d = rw (a, b, c, d)
 
 -- What the three checks of the records answer of accepted records.
-records-accepted : (s : List ℕ) (w : Whole) → Accepted (traceOf s w) → recordsAnswer s (w .layout) ≡ answer (w .ticks)
+records-accepted : (s : List ℕ) (w : Parsed) → Accepted (traceOf s w) → recordsAnswer s (w .layout) ≡ answer (w .ticks)
 records-accepted s w ok = rw (ok .holes, ok .covered, ok .replies)
 
 -- The cut trace, and the bytes of its replies and of its samples.
-abbrev cut : List ℕ → Whole → ℕ → Trace
+abbrev cut : List ℕ → Parsed → ℕ → Trace
 cut s w t = cutAt (traceOf s w) t
 
-abbrev replyBytes : List ℕ → Whole → ℕ → List ℕ
+abbrev replyBytes : List ℕ → Parsed → ℕ → List ℕ
 replyBytes s w t = take (10 * length (cut s w t .replies)) (repliesPart s (w .layout))
 
-abbrev sampleBytes : List ℕ → Whole → ℕ → List ℕ
+abbrev sampleBytes : List ℕ → Parsed → ℕ → List ℕ
 sampleBytes s w t = take (sampleWidth (w .layout .cells) * length (cut s w t .samples)) (samplesPart s (w .layout))
 
 -- What is handed on of its bytes.
-abbrev cutWhole : List ℕ → Whole → ℕ → Whole
+abbrev cutWhole : List ℕ → Parsed → ℕ → Parsed
 cutWhole s w t =
     record {
       layout =
@@ -58,7 +58,7 @@ cutWhole s w t =
       ticks = suc t;
     }
 
-module _ (s : List ℕ) (bytes : Bytes s) {report verdicts : ℕ} (w : Whole) (passed : Checks s report verdicts w) (ok : Accepted (traceOf s w)) (t : ℕ) where
+module _ (s : List ℕ) (bytes : Bytes s) {report verdicts : ℕ} (w : Parsed) (passed : Checks s report verdicts w) (ok : Accepted (traceOf s w)) (t : ℕ) where
   sections : Walked s (w .layout)
   sections = walked s (w .layout) (passed .walked)
 
@@ -112,8 +112,8 @@ module _ (s : List ℕ) (bytes : Bytes s) {report verdicts : ℕ} (w : Whole) (p
   unfolding cutBytes
   reads = written-reads (take 166 s) _ _ _ _ _ _ _ start holes-fits replies-fits samples-fits begun (ap sampleWidth (sym same-cells))
 
-  same-pack : traceOf (cutBytes s w t) (cutWhole s w t) .pack ≡ traceOf s w .pack
-  same-pack =
+  same-config : traceOf (cutBytes s w t) (cutWhole s w t) .config ≡ traceOf s w .config
+  same-config =
       let idle : u16At (cutBytes s w t) 2 ≡ w .layout .idle = starts .idle ∙ sym (sections .idle) in
       let settings : settingsOf (rulesPart (cutBytes s w t)) ≡ w .settings = ap settingsOf (starts .rules) ∙ sym (passed .settings) in
       rw (same-cells, idle, settings)
@@ -130,14 +130,14 @@ module _ (s : List ℕ) (bytes : Bytes s) {report verdicts : ℕ} (w : Whole) (p
       ∙ samples-cut (w .layout .cells) (samplesPart s (w .layout)) _ fewer-samples
       ∙ sym samples-first
 
-  same-rules : L.rulesAnswer (getD (cutBytes s w t) 1 0) (rulesPart (cutBytes s w t)) ≡ answer tt
-  same-rules = ap₂ L.rulesAnswer same-cells (starts .rules) ∙ passed .rules
+  same-rules : L.ruleSetAnswer (getD (cutBytes s w t) 1 0) (rulesPart (cutBytes s w t)) ≡ answer tt
+  same-rules = ap₂ L.ruleSetAnswer same-cells (starts .rules) ∙ passed .rules
 
   cut-read : Accepted (cut s w t)
       → (acceptAnswer (cutBytes s w t) 187 (length (cut s w t .replies)) ≡ answer (cutWhole s w t))
       × (traceOf (cutBytes s w t) (cutWhole s w t) ≡ cut s w t)
   cut-read good =
-      let same : traceOf (cutBytes s w t) (cutWhole s w t) ≡ cut s w t = same-trace (suc t) same-pack (same-holes good) same-replies same-samples in
+      let same : traceOf (cutBytes s w t) (cutWhole s w t) ≡ cut s w t = same-trace (suc t) same-config (same-holes good) same-replies same-samples in
       let records = records-accepted (cutBytes s w t) (cutWhole s w t) (subst Accepted (sym same) good) in
       (outcomes.accepted (cutBytes s w t) (reads .walk) refl same-rules records, same)
 

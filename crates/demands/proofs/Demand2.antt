@@ -83,17 +83,17 @@ same-alarms d e f = rw (d, e, f)
 
 -- With no hole what is so of the run is so under every filling, and under some.
 module _ (tr : Trace) (ok : Accepted tr) (none : tr .holes ≡ []) where
-  a-filling : Fills tr (λ t. blank (tr .pack .cells))
-  a-filling t h = blank-carried (tr .pack .cells)
+  a-filling : Fills tr (λ t. blank (tr .config .cells))
+  a-filling t h = blank-carried (tr .config .cells)
 
   run-every : (i t : ℕ) → t < tr .ticks → (test : ℕ → Bool) → T (test (runState tr i t)) → UnderEvery tr i t test
   run-every i t l test h f fills = subst (λ s. T (test s)) (sym (one-run tr ok none i t l f)) h
 
   every-run : (i t : ℕ) → t < tr .ticks → (test : ℕ → Bool) → UnderEvery tr i t test → T (test (runState tr i t))
-  every-run i t l test all = subst (λ s. T (test s)) (one-run tr ok none i t l _) (all (λ u. blank (tr .pack .cells)) a-filling)
+  every-run i t l test all = subst (λ s. T (test s)) (one-run tr ok none i t l _) (all (λ u. blank (tr .config .cells)) a-filling)
 
   run-some : (i t : ℕ) → t < tr .ticks → (test : ℕ → Bool) → T (test (runState tr i t)) → UnderSome tr i t test
-  run-some i t l test h = ((λ u. blank (tr .pack .cells)), a-filling, run-every i t l test h _ a-filling)
+  run-some i t l test h = ((λ u. blank (tr .config .cells)), a-filling, run-every i t l test h _ a-filling)
 
   some-run : (i t : ℕ) → t < tr .ticks → (test : ℕ → Bool) → UnderSome tr i t test → T (test (runState tr i t))
   some-run i t l test (f, fills, h) = subst (λ s. T (test s)) (one-run tr ok none i t l f) h
@@ -109,12 +109,12 @@ module _ (tr : Trace) (ok : Accepted tr) (none : tr .holes ≡ []) where
   output-run o t l =
       ap (outputOf (drivers o) rows) (tabulate-same 16 _ _ (λ i h. status-sure i t h l)) ∙ output-sure (drivers o) rows 16 (λ i. runActive tr i t)
 
-  verdict-run : (r : Reply) → r .tick < tr .ticks → verdictOn (tr .pack) (shown tr) r ≡ runVerdict tr r
+  verdict-run : (r : Reply) → r .tick < tr .ticks → verdictOn (tr .config) (shown tr) r ≡ runVerdict tr r
   verdict-run r l =
       ap (λ (a : Alarms). verdictOf (tickOf (shown tr (r .tick))) a (r .bytes))
       (same-alarms (output-run TerminateChargeAlarm (r .tick) l) (output-run OverTempAlarm (r .tick) l) (output-run TerminateDischargeAlarm (r .tick) l))
 
-  verdicts-run : (rs : List Reply) (i low : ℕ) → repliesAnswer (tr .ticks) rs i low ≡ answer tt → map (verdictOn (tr .pack) (shown tr)) rs ≡ map (runVerdict tr) rs
+  verdicts-run : (rs : List Reply) (i low : ℕ) → repliesAnswer (tr .ticks) rs i low ≡ answer tt → map (verdictOn (tr .config) (shown tr)) rs ≡ map (runVerdict tr) rs
   unfolding repliesAnswer
   verdicts-run [] i low e = refl
   verdicts-run (r ∷ rs) i low e =

@@ -105,8 +105,8 @@ module _ (tr : Trace) (ok : Accepted tr) where
       ap (activeOf (drivers o) rows)
       (tabulate-same 16 _ _ (λ i h. ap (active-of tr i) (sym (after-within tr ok (ruleIn tr i) f (suc t) l))))
 
-  output-known : (o : Output) → OutputSound (drivers o) (tr .pack) (shown tr)
-  output-known o = output-sound (drivers o) (tr .pack) (ok .rules) (shown tr)
+  output-known : (o : Output) → OutputSound (drivers o) (tr .config) (shown tr)
+  output-known o = output-sound (drivers o) (tr .config) (ok .rules) (shown tr)
 
   pub outputs-judged : OutputsJudged tr
   outputs-judged =
@@ -120,7 +120,7 @@ module _ (tr : Trace) (ok : Accepted tr) where
 
   pub charge-judged : ChargeJudged tr
   charge-judged =
-      let c = charge-bounded (tr .pack .cells) (shown tr) (tr .ticks) in
+      let c = charge-bounded (tr .config .cells) (shown tr) (tr .ticks) in
       let (f, hf, ef) = c .reachedLeast in
       let (g, hg, eg) = c .reachedGreatest in
       record {

@@ -52,7 +52,7 @@ module _ (tr : Trace) (ok : Accepted tr) where
   unfolding after
   status-start i h = clear-exactly (ruleIn tr i) (ok .rules i h) (shown tr) 0 (status (last (ruleIn tr i))) .1 (λ f fills. inactive (last (ruleIn tr i)))
 
-  output-start : (o : Output) → output (drivers o) (tr .pack) (shown tr) 0 ≡ Clear
+  output-start : (o : Output) → output (drivers o) (tr .config) (shown tr) 0 ≡ Clear
   output-start o = ap (outputOf (drivers o) rows) (tabulate-same 16 _ (λ i. Clear) status-start) ∙ all-clear (drivers o) rows 16
 
   pub end-judged : EndJudged tr

@@ -7,14 +7,14 @@ use Rattle.limits.specs.Limits as L
 use Rattle.trace.specs.Records.{holesFrom, repliesFrom, samplesFrom}
 use Rattle.trace.specs.Sections.{headAnswer, rulesAnswer, sectionAnswer, walkAnswer}
 use Rattle.trace.specs.Coverage.{holesAnswer, coverAnswer, repliesAnswer}
-use Rattle.trace.specs.Acceptance.{Whole, acceptAnswer}
+use Rattle.trace.specs.Acceptance.{Parsed, acceptAnswer}
 use Rattle.ticks.specs.Traces.{traceOf}
 use Rattle.demands.specs.Examples.{withoutHole, withHole}
 
-pub without-hole-accepted : (w : Whole) × (acceptAnswer withoutHole 187 0 ≡ answer w) × (traceOf withoutHole w .holes ≡ [])
-unfolding acceptAnswer walkAnswer headAnswer rulesAnswer sectionAnswer L.rulesAnswer limitsAnswer limits holesAnswer coverAnswer repliesAnswer holesFrom repliesFrom samplesFrom
+pub without-hole-accepted : (w : Parsed) × (acceptAnswer withoutHole 187 0 ≡ answer w) × (traceOf withoutHole w .holes ≡ [])
+unfolding acceptAnswer walkAnswer headAnswer rulesAnswer sectionAnswer L.ruleSetAnswer limitsAnswer limits holesAnswer coverAnswer repliesAnswer holesFrom repliesFrom samplesFrom
 without-hole-accepted = (_, refl, refl)
 
-pub with-hole-accepted : (w : Whole) × (acceptAnswer withHole 187 0 ≡ answer w) × (traceOf withHole w .holes ≡ record { first = 0; last = 0 } ∷ [])
-unfolding acceptAnswer walkAnswer headAnswer rulesAnswer sectionAnswer L.rulesAnswer limitsAnswer limits holesAnswer coverAnswer repliesAnswer holesFrom repliesFrom samplesFrom
+pub with-hole-accepted : (w : Parsed) × (acceptAnswer withHole 187 0 ≡ answer w) × (traceOf withHole w .holes ≡ record { first = 0; last = 0 } ∷ [])
+unfolding acceptAnswer walkAnswer headAnswer rulesAnswer sectionAnswer L.ruleSetAnswer limitsAnswer limits holesAnswer coverAnswer repliesAnswer holesFrom repliesFrom samplesFrom
 with-hole-accepted = (_, refl, refl)

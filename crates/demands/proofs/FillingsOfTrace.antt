@@ -53,19 +53,19 @@ net-alike trace f g (suc k) h = ap₂ (λ z x. z +ℤ x .current) (net-alike tra
 
 -- A filling inside the holes, and some carried sample elsewhere.
 abbrev pub within : Trace → (ℕ → Sample) → ℕ → Sample
-within tr f t = cond (inHole (tr .holes) t) (f t) (blank (tr .pack .cells))
+within tr f t = cond (inHole (tr .holes) t) (f t) (blank (tr .config .cells))
 
-pub within-fills : (tr : Trace) (f : ℕ → Sample) → Fills tr f → Filling (tr .pack .cells) (shown tr) (within tr f)
+pub within-fills : (tr : Trace) (f : ℕ → Sample) → Fills tr f → Filling (tr .config .cells) (shown tr) (within tr f)
 within-fills tr f fills t e = go (inHole (tr .holes) t) (fills t)
   where
-    go : (b : Bool) → (T b → Carried (tr .pack .cells) (f t)) → Carried (tr .pack .cells) (cond b (f t) (blank (tr .pack .cells)))
+    go : (b : Bool) → (T b → Carried (tr .config .cells) (f t)) → Carried (tr .config .cells) (cond b (f t) (blank (tr .config .cells)))
     go true c = c tt
-    go false c = blank-carried (tr .pack .cells)
+    go false c = blank-carried (tr .config .cells)
 
 pub within-alike : (tr : Trace) (f g : ℕ → Sample) (t : ℕ) → (T (inHole (tr .holes) t) → f t ≡ g t) → within tr f t ≡ within tr g t
 within-alike tr f g t h = go (inHole (tr .holes) t) h
   where
-    go : (b : Bool) → (T b → f t ≡ g t) → cond b (f t) (blank (tr .pack .cells)) ≡ cond b (g t) (blank (tr .pack .cells))
+    go : (b : Bool) → (T b → f t ≡ g t) → cond b (f t) (blank (tr .config .cells)) ≡ cond b (g t) (blank (tr .config .cells))
     go true h = h tt
     go false h = refl
 
@@ -81,14 +81,14 @@ module _ (tr : Trace) (ok : Accepted tr) where
       (λ l. shows-none (tr .samples) t (once .once t l ∙ ap not e))
       (λ l. shows-none (tr .samples) t (once .none t l .0))
 
-  pub filling-fills : (f : ℕ → Sample) → Filling (tr .pack .cells) (shown tr) f → Fills tr f
+  pub filling-fills : (f : ℕ → Sample) → Filling (tr .config .cells) (shown tr) f → Fills tr f
   filling-fills f fills t h = fills t (hole-unseen t h)
 
   -- Up to the last tick the trace looks at a filling inside the holes only.
   looks-within : (f : ℕ → Sample) (t : ℕ) → t < tr .ticks → filled (shown tr t) (f t) ≡ filled (shown tr t) (within tr f t)
   looks-within f t l = go (inHole (tr .holes) t) (once .once t l)
     where
-      go : (b : Bool) → hasSample (tr .samples) t ≡ not b → filled (shown tr t) (f t) ≡ filled (shown tr t) (cond b (f t) (blank (tr .pack .cells)))
+      go : (b : Bool) → hasSample (tr .samples) t ≡ not b → filled (shown tr t) (f t) ≡ filled (shown tr t) (cond b (f t) (blank (tr .config .cells)))
       go true e = refl
       go false e = let (x, s) = shows-one (tr .samples) t e in rw s
 

@@ -189,15 +189,15 @@ module _ (tr : Trace) where
   unfolding traceReport
   report-held i h l = whole-held flagsOf firstsOf totals i h (first-small 0 (tr .ticks) _ (omega arith))
 
-  pub report-charge : getD (traceReport tr) 160 0 ≡ numberOf (output (drivers ChargeOpen) (tr .pack) (shown tr) (tr .ticks))
+  pub report-charge : getD (traceReport tr) 160 0 ≡ numberOf (output (drivers ChargeOpen) (tr .config) (shown tr) (tr .ticks))
   unfolding traceReport
   report-charge = whole-outputs flagsOf firstsOf totals 0 (omega arith)
 
-  pub report-discharge : getD (traceReport tr) 161 0 ≡ numberOf (output (drivers DischargeOpen) (tr .pack) (shown tr) (tr .ticks))
+  pub report-discharge : getD (traceReport tr) 161 0 ≡ numberOf (output (drivers DischargeOpen) (tr .config) (shown tr) (tr .ticks))
   unfolding traceReport
   report-discharge = whole-outputs flagsOf firstsOf totals 1 (omega arith)
 
-  pub report-fuse : getD (traceReport tr) 162 0 ≡ numberOf (output (drivers Fuse) (tr .pack) (shown tr) (tr .ticks))
+  pub report-fuse : getD (traceReport tr) 162 0 ≡ numberOf (output (drivers Fuse) (tr .config) (shown tr) (tr .ticks))
   unfolding traceReport
   report-fuse = whole-outputs flagsOf firstsOf totals 2 (omega arith)
 

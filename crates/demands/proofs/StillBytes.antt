@@ -6,7 +6,7 @@ use lib.ListN.{length, take, drop}
 use Rattle.report.specs.Bytes.{bytesOf}
 use Rattle.trace.specs.Records.{Hole, sampleWidth}
 use Rattle.trace.specs.Sections.{part, repliesPart, samplesPart}
-use Rattle.trace.specs.Acceptance.{Whole}
+use Rattle.trace.specs.Acceptance.{Parsed}
 use Rattle.trace.specs.declared.Layout.{Layout}
 use Rattle.ticks.specs.Traces.{Trace, traceOf}
 use Rattle.ticks.specs.Cut.{cutAt}
@@ -63,7 +63,7 @@ holes (h ∷ hs) = append (append (number 4 (h .first)) (number 4 (h .last))) (h
 section : {p q : List ℕ} (k : ℕ) → Are p → Are q → Are (p ++ bytesOf 2 k ++ q)
 section k a b = append (append a (number 2 k)) b
 
-pub still-bytes : (s : List ℕ) (w : Whole) (t : ℕ) → Bytes s → Bytes (cutBytes s w t)
+pub still-bytes : (s : List ℕ) (w : Parsed) (t : ℕ) → Bytes s → Bytes (cutBytes s w t)
 unfolding cutBytes
 still-bytes s w t b =
     let all : Are s = record { bytes = b } in

@@ -7,7 +7,7 @@ use Rattle.refusals.specs.Refusals.{answer}
 use Rattle.report.specs.Bytes.{bytesOf}
 use Rattle.trace.specs.Records.{Hole, sampleWidth}
 use Rattle.trace.specs.Sections.{repliesPart, samplesPart}
-use Rattle.trace.specs.Acceptance.{Whole, acceptAnswer}
+use Rattle.trace.specs.Acceptance.{Parsed, acceptAnswer}
 use Rattle.ticks.specs.Traces.{traceOf}
 use Rattle.ticks.specs.Cut.{cutAt}
 
@@ -17,7 +17,7 @@ holeBytes [] = []
 holeBytes (h ∷ hs) = bytesOf 4 (h .first) ++ bytesOf 4 (h .last) ++ holeBytes hs
 
 -- The bytes of an accepted trace cut at a tick: head and rules as they are, then each section with its count.
-unfoldable pub cutBytes : List ℕ → Whole → ℕ → List ℕ
+unfoldable pub cutBytes : List ℕ → Parsed → ℕ → List ℕ
 cutBytes s w t =
     take 166 s
     ++ bytesOf 2 (length (cutAt (traceOf s w) t .holes)) ++ holeBytes (cutAt (traceOf s w) t .holes)
@@ -31,8 +31,8 @@ Bytes s = (i : ℕ) → i < length s → getD s i 0 < 256
 -- They are bytes, they are accepted, and their trace is the cut trace.
 abbrev pub CutBytes : Type 0
 CutBytes =
-    (s : List ℕ) → Bytes s → (report verdicts : ℕ) (w : Whole) → acceptAnswer s report verdicts ≡ answer w → (t : ℕ) → t < w .ticks
-    → (w′ : Whole)
+    (s : List ℕ) → Bytes s → (report verdicts : ℕ) (w : Parsed) → acceptAnswer s report verdicts ≡ answer w → (t : ℕ) → t < w .ticks
+    → (w′ : Parsed)
     × (acceptAnswer (cutBytes s w t) 187 (length (cutAt (traceOf s w) t .replies)) ≡ answer w′)
     × (traceOf (cutBytes s w t) w′ ≡ cutAt (traceOf s w) t)
     × Bytes (cutBytes s w t)

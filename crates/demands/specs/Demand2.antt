@@ -18,7 +18,7 @@ use Rattle.flags.specs.Flags.{numberOf}
 use Rattle.flags.specs.Outputs.{drivers, activeOf}
 use Rattle.verdicts.specs.Verdicts.{verdictOf}
 use Rattle.trace.specs.Records.{Reply, Stamped}
-use Rattle.trace.specs.Acceptance.{Whole, acceptAnswer}
+use Rattle.trace.specs.Acceptance.{Parsed, acceptAnswer}
 use Rattle.fillings.specs.Fillings.{Rule, last, evaluate}
 use Rattle.fillings.specs.PossibleStates.{tabulate}
 use Rattle.fillings.specs.Charge.{inward, outward}
@@ -84,5 +84,5 @@ pub record TotalsJudged (tr : Trace) : Type 0 where
 
 -- Demand 2: of all bytes that are accepted.
 abbrev pub Demand2 : Type 0
-Demand2 = (s : List ℕ) (report verdicts : ℕ) (w : Whole) → acceptAnswer s report verdicts ≡ answer w
+Demand2 = (s : List ℕ) (report verdicts : ℕ) (w : Parsed) → acceptAnswer s report verdicts ≡ answer w
     → TotalsJudged (traceOf s w) × (traceOf s w .holes ≡ [] → RunJudged (traceOf s w))

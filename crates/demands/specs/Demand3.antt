@@ -20,7 +20,7 @@ use Rattle.fillings.specs.Fillings.{last, seen}
 use Rattle.fillings.specs.Outputs.{output, active}
 use Rattle.fillings.specs.Charge.{netCharge, leastCharge, greatestCharge}
 use Rattle.fillings.specs.Demand3.{First, evaluations, Tripping}
-use Rattle.trace.specs.Acceptance.{Whole, acceptAnswer}
+use Rattle.trace.specs.Acceptance.{Parsed, acceptAnswer}
 use Rattle.ticks.specs.Traces.{Trace, traceOf, shown, inHole}
 use Rattle.ticks.specs.Cut.{cutAt}
 use Rattle.demands.specs.Reading.{byteOf, byteAt, alertAt, statusAt, possibleFrom, heldFrom, ruleIn, Fills, stateUnder, UnderEvery, UnderSome, SureAt}
@@ -54,10 +54,10 @@ pub record RuleJudged (tr : Trace) (i : ℕ) : Type 0 where
 
 -- What an output or a status bit is at a tick, and under a filling.
 abbrev pub outputAt : Trace → Output → ℕ → Flag
-outputAt tr o t = output (drivers o) (tr .pack) (shown tr) (suc t)
+outputAt tr o t = output (drivers o) (tr .config) (shown tr) (suc t)
 
 abbrev pub activeUnder : Trace → Output → (ℕ → Sample) → ℕ → Bool
-activeUnder tr o f t = active (drivers o) (tr .pack) (shown tr) f (suc t)
+activeUnder tr o f t = active (drivers o) (tr .config) (shown tr) f (suc t)
 
 -- What is promised of the outputs and of the status bits.
 pub record OutputsJudged (tr : Trace) : Type 0 where
@@ -103,4 +103,4 @@ pub record TraceJudged (tr : Trace) : Type 0 where
 
 -- Demand 3: of all bytes that are accepted.
 abbrev pub Demand3 : Type 0
-Demand3 = (s : List ℕ) (report verdicts : ℕ) (w : Whole) → acceptAnswer s report verdicts ≡ answer w → TraceJudged (traceOf s w)
+Demand3 = (s : List ℕ) (report verdicts : ℕ) (w : Parsed) → acceptAnswer s report verdicts ≡ answer w → TraceJudged (traceOf s w)

@@ -37,11 +37,11 @@ heldFrom tr i = u32At (traceReport tr) (10 * i + 6)
 
 -- Rule i of a trace.
 abbrev pub ruleIn : Trace → ℕ → Rule
-ruleIn tr i = ruleOf (tr .pack) i
+ruleIn tr i = ruleOf (tr .config) i
 
 -- A filling gives each tick of a trace's holes one sample of its layout. What it gives at other ticks is never looked at.
 abbrev pub Fills : Trace → (ℕ → Sample) → Type 0
-Fills tr f = (t : ℕ) → T (inHole (tr .holes) t) → Carried (tr .pack .cells) (f t)
+Fills tr f = (t : ℕ) → T (inHole (tr .holes) t) → Carried (tr .config .cells) (f t)
 
 -- The state of rule i after a tick, under a filling.
 abbrev pub stateUnder : Trace → ℕ → (ℕ → Sample) → ℕ → ℕ

@@ -5,19 +5,19 @@ use Rattle.flags.specs.declared.RuleFlags.{RuleFlags}
 use Rattle.report.specs.declared.FirstTicks.{FirstTicks}
 use Rattle.report.specs.declared.Totals.{Totals}
 use Rattle.report.specs.Layout.{reportBytes}
-use Rattle.fillings.specs.Fillings.{Shown, Pack, ruleOf}
+use Rattle.fillings.specs.Fillings.{Shown, Config, ruleOf}
 use Rattle.fillings.specs.PossibleStates.{tabulate}
 use Rattle.fillings.specs.Flags.{alertFlag, statusFlag, firstPossible, firstHeld}
 use Rattle.fillings.specs.Charge.{chargeIn, chargeOut, unseenTicks}
 use Rattle.ticks.specs.Traces.{Trace, shown}
 
 -- The flags of all rules once the first k ticks have passed.
-abbrev pub flagsAt : Pack → (ℕ → Shown) → ℕ → List RuleFlags
+abbrev pub flagsAt : Config → (ℕ → Shown) → ℕ → List RuleFlags
 flagsAt p trace k =
     tabulate 16 (λ i. record { alert = alertFlag (ruleOf p i) trace k; status = statusFlag (ruleOf p i) trace k })
 
 -- The first ticks of all rules among the first k.
-abbrev pub firstsAt : Pack → (ℕ → Shown) → ℕ → List FirstTicks
+abbrev pub firstsAt : Config → (ℕ → Shown) → ℕ → List FirstTicks
 firstsAt p trace k =
     tabulate 16 (λ i. record { possible = firstPossible (ruleOf p i) trace k; held = firstHeld (ruleOf p i) trace k })
 
@@ -29,4 +29,4 @@ totalsAt trace k =
 -- The report of a trace: flags, first ticks and totals at its end.
 unfoldable pub traceReport : Trace → List ℕ
 traceReport tr =
-    reportBytes (flagsAt (tr .pack) (shown tr) (tr .ticks)) (firstsAt (tr .pack) (shown tr) (tr .ticks)) (totalsAt (shown tr) (tr .ticks))
+    reportBytes (flagsAt (tr .config) (shown tr) (tr .ticks)) (firstsAt (tr .config) (shown tr) (tr .ticks)) (totalsAt (shown tr) (tr .ticks))

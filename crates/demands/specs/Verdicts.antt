@@ -9,7 +9,7 @@ use Rattle.verdicts.specs.declared.Tick.the-variants.{Seen, Unseen}
 use Rattle.verdicts.specs.declared.Alarms.{Alarms}
 use Rattle.verdicts.specs.Verdicts.{verdictOf}
 use Rattle.trace.specs.Records.{Reply}
-use Rattle.fillings.specs.Fillings.{Shown, seen, unseen, Pack}
+use Rattle.fillings.specs.Fillings.{Shown, seen, unseen, Config}
 use Rattle.fillings.specs.Outputs.{output}
 use Rattle.ticks.specs.Traces.{Trace, shown}
 
@@ -19,7 +19,7 @@ tickOf (seen x) = Seen (sum (x .volts)) (x .current)
 tickOf unseen = Unseen
 
 -- The bits 4000h, 1000h and 0800h once the first k ticks have passed.
-abbrev pub alarmsAt : Pack → (ℕ → Shown) → ℕ → Alarms
+abbrev pub alarmsAt : Config → (ℕ → Shown) → ℕ → Alarms
 alarmsAt p trace k =
     record {
       «terminate_charge» = output (drivers TerminateChargeAlarm) p trace k;
@@ -28,9 +28,9 @@ alarmsAt p trace k =
     }
 
 -- The verdict on a reply.
-abbrev pub verdictOn : Pack → (ℕ → Shown) → Reply → ℕ
+abbrev pub verdictOn : Config → (ℕ → Shown) → Reply → ℕ
 verdictOn p trace r = verdictOf (tickOf (trace (r .tick))) (alarmsAt p trace (suc (r .tick))) (r .bytes)
 
 -- The verdicts of a trace, one a reply.
 unfoldable pub traceVerdicts : Trace → List ℕ
-traceVerdicts tr = map (verdictOn (tr .pack) (shown tr)) (tr .replies)
+traceVerdicts tr = map (verdictOn (tr .config) (shown tr)) (tr .replies)

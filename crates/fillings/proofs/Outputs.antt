@@ -12,7 +12,7 @@ use Rattle.flags.specs.declared.Flag.{Flag}
 use Rattle.flags.specs.declared.Flag.the-variants.{Clear, Held, Unknown}
 use Rattle.flags.specs.Flags.{withNext}
 use Rattle.flags.specs.Outputs.{outputOf, activeOf}
-use Rattle.fillings.specs.Fillings.{Shown, Pack, SoundPack, ruleOf, last, after}
+use Rattle.fillings.specs.Fillings.{Shown, Config, SoundConfig, ruleOf, last, after}
 use Rattle.fillings.specs.PossibleStates.{tabulate}
 use Rattle.fillings.specs.Flags.{statusFlag}
 use Rattle.fillings.specs.Demand3.{OutputSound}
@@ -63,7 +63,7 @@ module _ (drives : Row → Bool) where
   output-clear (row ∷ rs) (suc n) f b h e =
       driven-clear (drives row) (f 0) _ (b 0) _ (h 0 (omega arith)) (output-clear rs n (λ i. f (suc i)) (λ i. b (suc i)) (λ i l. h (suc i) (omega arith))) e
 
-pub output-sound : (drives : Row → Bool) (p : Pack) → SoundPack p → (trace : ℕ → Shown) → OutputSound drives p trace
+pub output-sound : (drives : Row → Bool) (p : Config) → SoundConfig p → (trace : ℕ → Shown) → OutputSound drives p trace
 output-sound drives p ok trace =
     record {
       whenHeld = λ k f fills. output-held drives rows 16 (λ i. statusFlag (ruleOf p i) trace k) (λ i. status (last (ruleOf p i)) (after (ruleOf p i) trace f k)) (λ i l e. held-exactly (ruleOf p i) (ok i l) trace k (status (last (ruleOf p i))) .0 e f fills);

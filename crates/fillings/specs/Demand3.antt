@@ -11,7 +11,7 @@ use Rattle.rules.specs.declared.Row.{Row}
 use Rattle.rules.specs.Samples.{Sample, readingsOf}
 use Rattle.rules.specs.Evaluation.{trips, clears, alert, status, evaluated}
 use Rattle.flags.specs.declared.Flag.the-variants.{Clear, Held, Unknown}
-use Rattle.fillings.specs.Fillings.{Rule, last, Shown, seen, unseen, Filling, after, Pack}
+use Rattle.fillings.specs.Fillings.{Rule, last, Shown, seen, unseen, Filling, after, Config}
 use Rattle.fillings.specs.PossibleStates.{has, possible, unseenTimes}
 use Rattle.fillings.specs.Flags.{alertFlag, statusFlag, firstPossible, firstHeld}
 use Rattle.fillings.specs.Outputs.{output, active}
@@ -76,7 +76,7 @@ pub record Judged (r : Rule) (trace : ℕ → Shown) (ticks : ℕ) : Type 0 wher
       × (status (last r) (after r trace f (suc u)) ≡ status (last r) (after r trace g (suc u)))
 
 -- What is promised of an output: what reads held or clear is so under every filling.
-pub record OutputSound (drives : Row → Bool) (p : Pack) (trace : ℕ → Shown) : Type 0 where
+pub record OutputSound (drives : Row → Bool) (p : Config) (trace : ℕ → Shown) : Type 0 where
   pub whenHeld : (k : ℕ) (f : ℕ → Sample) → Filling (p .cells) trace f → output drives p trace k ≡ Held → T (active drives p trace f k)
   pub whenClear : (k : ℕ) (f : ℕ → Sample) → Filling (p .cells) trace f → output drives p trace k ≡ Clear → T (not (active drives p trace f k))
 

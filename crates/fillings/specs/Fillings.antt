@@ -55,15 +55,15 @@ after r trace f (suc k) =
     cond (evaluated (r .row) k) (evaluate r (filled (trace k) (f k)) (after r trace f k)) (after r trace f k)
 
 -- The head and the rules of a trace.
-pub record Pack : Type 0 where
+pub record Config : Type 0 where
   pub cells : ℕ
   pub idle : ℕ
   pub settings : List Setting
 
 -- Rule i of a trace.
-abbrev pub ruleOf : Pack → ℕ → Rule
+abbrev pub ruleOf : Config → ℕ → Rule
 ruleOf p i = record { cells = p .cells; idle = p .idle; row = rowAt i; setting = getD (p .settings) i off }
 
 -- What acceptance ensures of head and rules.
-abbrev pub SoundPack : Pack → Type 0
-SoundPack p = (i : ℕ) → i < 16 → Sound (ruleOf p i)
+abbrev pub SoundConfig : Config → Type 0
+SoundConfig p = (i : ℕ) → i < 16 → Sound (ruleOf p i)

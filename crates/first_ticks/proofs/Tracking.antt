@@ -8,7 +8,7 @@ use lib.ListN.{getD}
 use Rattle.rules.specs.Table.{rowAt}
 use Rattle.rules.specs.Evaluation.{status}
 use Rattle.flags.specs.declared.Flag.{Flag}
-use Rattle.fillings.specs.Fillings.{last, Shown, unseen, Pack, ruleOf}
+use Rattle.fillings.specs.Fillings.{last, Shown, unseen, Config, ruleOf}
 use Rattle.fillings.specs.PossibleStates.{tabulate, unseenTimes}
 use Rattle.fillings.specs.Flags.{flag, statusFlag, notClear, isHeld, firstFrom}
 use Rattle.fillings.proofs.Still.{possible-hole}
@@ -34,7 +34,7 @@ noted-each found firsts new h =
     tabulate-same 16 (λ i. noted (found i) (getD (tabulate 16 firsts) i 0)) new
     (λ i l. ap (noted (found i)) (getD-tabulate 16 firsts 0 i l) ∙ h i l)
 
-module _ (p : Pack) (short : ShortTimes p) (trace : ℕ → Shown) where
+module _ (p : Config) (short : ShortTimes p) (trace : ℕ → Shown) where
   -- the status of rule i over a set of its states
   abbrev statusOver : ℕ → List Bool → Flag
   statusOver i = flag (last (ruleOf p i)) (status (last (ruleOf p i)))
@@ -84,7 +84,7 @@ module _ (p : Pack) (short : ShortTimes p) (trace : ℕ → Shown) where
         (λ i l. sym (held-over-hole (ruleOf p i) trace a (suc b) (omega arith) (omega arith) (λ t g h. hole t g (omega arith))))
 
 -- The first ticks follow every trace whose times are at most 255.
-pub firsts-tracked : (p : Pack) → ShortTimes p → (trace : ℕ → Shown) → FirstsTracked p trace
+pub firsts-tracked : (p : Config) → ShortTimes p → (trace : ℕ → Shown) → FirstsTracked p trace
 unfolding firstFrom
 firsts-tracked p short trace =
     record {

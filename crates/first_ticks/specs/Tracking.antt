@@ -2,22 +2,22 @@
 use Prim.Native.Nat.{ℕ, suc, _≤_, _<_}
 use mathlib.Core.Path.{_≡_}
 use mathlib.Core.List.{List}
-use Rattle.fillings.specs.Fillings.{Shown, unseen, Pack, ruleOf}
+use Rattle.fillings.specs.Fillings.{Shown, unseen, Config, ruleOf}
 use Rattle.fillings.specs.PossibleStates.{tabulate}
 use Rattle.fillings.specs.Flags.{notClear, isHeld, firstPossible, firstHeld}
 use Rattle.states.specs.Tracking.{recordAt}
 use Rattle.first_ticks.specs.Firsts.{none, notedSeen, notedUnseen}
 
 -- The first ticks of sixteen rules at which status is held or unknown, among the first k ticks.
-abbrev pub possibleAt : Pack → (ℕ → Shown) → ℕ → List ℕ
+abbrev pub possibleAt : Config → (ℕ → Shown) → ℕ → List ℕ
 possibleAt p trace k = tabulate 16 (λ i. firstPossible (ruleOf p i) trace k)
 
 -- Those at which it is held.
-abbrev pub heldAt : Pack → (ℕ → Shown) → ℕ → List ℕ
+abbrev pub heldAt : Config → (ℕ → Shown) → ℕ → List ℕ
 heldAt p trace k = tabulate 16 (λ i. firstHeld (ruleOf p i) trace k)
 
 -- They begin with none, each step keeps them, and in a hole no status becomes held.
-pub record FirstsTracked (p : Pack) (trace : ℕ → Shown) : Type 0 where
+pub record FirstsTracked (p : Config) (trace : ℕ → Shown) : Type 0 where
   pub beginsPossible : tabulate 16 (λ i. none) ≡ possibleAt p trace 0
   pub beginsHeld : tabulate 16 (λ i. none) ≡ heldAt p trace 0
   pub seesPossible : (k : ℕ) → k < none → notedSeen notClear (p .settings) k (recordAt p trace (suc k)) (possibleAt p trace k) ≡ possibleAt p trace (suc k)

@@ -6,7 +6,7 @@ use Rattle.flags.specs.declared.RuleFlags.{RuleFlags}
 use Rattle.report.specs.declared.FirstTicks.{FirstTicks}
 use Rattle.report.specs.declared.Totals.{Totals}
 use Rattle.report.specs.Layout.{reported}
-use Rattle.fillings.specs.Fillings.{Pack}
+use Rattle.fillings.specs.Fillings.{Config}
 use Rattle.fillings.specs.PossibleStates.{tabulate}
 use Rattle.states.specs.Records.{fresh}
 use Rattle.states.specs.Readings.{allFlags}
@@ -21,7 +21,7 @@ use Rattle.judge.proofs.Knowing.{known-start}
 use Rattle.judge.proofs.Points.{alarms-known}
 use Rattle.judge.proofs.Joining.{firsts-joined}
 
-module _ {p : Pack} {holes replies samples : List ℕ} {m verdicts : ℕ} (g : Parts p holes replies samples m verdicts) where
+module _ {p : Config} {holes replies samples : List ℕ} {m verdicts : ℕ} (g : Parts p holes replies samples m verdicts) where
   pub point-start : (x : Point) (words firsts : List ℕ) → words ≡ fresh → firsts ≡ tabulate 16 (λ i. none)
       → x ≡ record { cursor = startOf holes samples (p .cells); alarms = alarmsOf (allFlags (p .settings) words) } → AtPoint p holes samples m x words firsts firsts
   point-start x words firsts w f e =

@@ -6,7 +6,7 @@ use native.Mathlib.Omega.{arith}
 use lib.ListN.{getD, length, set, length-set}
 use lib.Seq.{ext-getD, getD-set-same, getD-set-other}
 use Rattle.report.specs.declared.FirstTicks.{FirstTicks}
-use Rattle.fillings.specs.Fillings.{Shown, Pack, ruleOf}
+use Rattle.fillings.specs.Fillings.{Shown, Config, ruleOf}
 use Rattle.fillings.specs.Flags.{firstPossible, firstHeld}
 use Rattle.fillings.specs.PossibleStates.{tabulate}
 use Rattle.fillings.proofs.Bools.{length-tabulate}
@@ -48,6 +48,6 @@ module _ (possible held : List ℕ) where
       r .done j (omega arith) ∙ sym (getD-tabulate 16 (both possible held) none j g))
 
 -- Joined, they are the first ticks of the trace.
-pub firsts-joined : (p : Pack) (trace : ℕ → Shown) (k : ℕ) → joined (possibleAt p trace k) (heldAt p trace k) ≡ firstsAt p trace k
+pub firsts-joined : (p : Config) (trace : ℕ → Shown) (k : ℕ) → joined (possibleAt p trace k) (heldAt p trace k) ≡ firstsAt p trace k
 unfolding joined
 firsts-joined p trace k = refl

@@ -15,7 +15,7 @@ use Rattle.trace.specs.Records.{Reply, repliesFrom, repliesIn}
 use Rattle.trace.specs.Coverage.{repliesAnswer}
 use Rattle.trace.proofs.Answers.{unless}
 use Rattle.trace.proofs.ReplyTurns.{reply-next}
-use Rattle.fillings.specs.Fillings.{Pack}
+use Rattle.fillings.specs.Fillings.{Config}
 use Rattle.ticks.proofs.Tests.{or-false}
 use Rattle.ticks.proofs.Places.{place-low}
 use Rattle.verdicts.specs.declared.Tick.{Tick}
@@ -26,7 +26,7 @@ use Rattle.judge.specs.declared.replies.Point.{Point}
 use Rattle.judge.specs.Walk.{shows, Known, AtPoint, Reached}
 
 -- The replies below number j are judged, and the walk has not passed the next one; `low` is the tick of the last one.
-pub record Judging (p : Pack) (holes samples replies : List ℕ) (m : ℕ) (words possible held verdicts : List ℕ) (x : Point) (j : ℕ) : Type 0 where
+pub record Judging (p : Config) (holes samples replies : List ℕ) (m : ℕ) (words possible held verdicts : List ℕ) (x : Point) (j : ℕ) : Type 0 where
   pub there : AtPoint p holes samples m x words possible held
   pub count : length verdicts ≡ length replies / 10
   pub within : j ≤ length verdicts
@@ -35,7 +35,7 @@ pub record Judging (p : Pack) (holes samples replies : List ℕ) (m : ℕ) (word
   pub left : repliesAnswer m (repliesFrom replies (length replies / 10 - j) (j * 10)) j low ≡ answer tt
   pub judged : map (verdictOn p (shows p samples)) (repliesIn replies) ≡ take j verdicts ++ map (verdictOn p (shows p samples)) (repliesFrom replies (length replies / 10 - j) (j * 10))
 
-pub judging-start : {p : Pack} {holes samples replies : List ℕ} {m : ℕ} {words possible held verdicts : List ℕ} {x : Point} → AtPoint p holes samples m x words possible held
+pub judging-start : {p : Config} {holes samples replies : List ℕ} {m : ℕ} {words possible held verdicts : List ℕ} {x : Point} → AtPoint p holes samples m x words possible held
     → x .cursor .tick ≤ 1 → repliesAnswer m (repliesIn replies) 0 0 ≡ answer tt → length verdicts ≡ length replies / 10
     → Judging p holes samples replies m words possible held verdicts x 0
 judging-start {p} {samples = samples} {replies} {m} g l a n =
@@ -51,13 +51,13 @@ judging-start {p} {samples = samples} {replies} {m} g l a n =
     }
 
 -- The verdict from where the walk stands after the reply's tick.
-verdict-here : (p : Pack) (holes samples : List ℕ) (m : ℕ) (words possible held : List ℕ) (x : Point) (tick : ℕ) (bytes : List ℕ) → AtPoint p holes samples m x words possible held
+verdict-here : (p : Config) (holes samples : List ℕ) (m : ℕ) (words possible held : List ℕ) (x : Point) (tick : ℕ) (bytes : List ℕ) → AtPoint p holes samples m x words possible held
     → x .cursor .tick ≡ suc tick → verdictOf (x .cursor .shown) (x .alarms) bytes ≡ verdictOn p (shows p samples) (record { tick = tick; bytes = bytes })
 verdict-here p holes samples m words possible held x tick bytes g e =
     ap₂ (λ (t : Tick) (a : Alarms). verdictOf t a bytes) (g .there .stands .last tick e)
     (g .alarms ∙ ap (alarmsAt p (shows p samples)) e)
 
-module _ {p : Pack} {holes samples replies : List ℕ} {m : ℕ} {words possible held verdicts : List ℕ} {x : Point} {j : ℕ} (g : Judging p holes samples replies m words possible held verdicts x j) where
+module _ {p : Config} {holes samples replies : List ℕ} {m : ℕ} {words possible held verdicts : List ℕ} {x : Point} {j : ℕ} (g : Judging p holes samples replies m words possible held verdicts x j) where
   abbrev n : ℕ
   n = length replies / 10
 
@@ -141,5 +141,5 @@ module _ {p : Pack} {holes samples replies : List ℕ} {m : ℕ} {words possible
       ∙ append-nil (take j verdicts)
       ∙ take-all j verdicts h)
 
-pub known-there : {p : Pack} {holes samples : List ℕ} {m : ℕ} {x : Point} {to : ℕ} {words possible held : List ℕ} → Reached p holes samples m x to words possible held → Known p samples to words possible held
+pub known-there : {p : Config} {holes samples : List ℕ} {m : ℕ} {x : Point} {to : ℕ} {words possible held : List ℕ} → Reached p holes samples m x to words possible held → Known p samples to words possible held
 known-there {p} {samples = samples} {words = words} {possible} {held} r = subst (λ (k : ℕ). Known p samples k words possible held) (r .at) (r .there .there .known)

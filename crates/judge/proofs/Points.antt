@@ -9,7 +9,7 @@ use lib.ListN.{length}
 use borrow.Author.Tests.{eq-eqb}
 use Rattle.refusals.specs.Refusals.{Answer, answer, refused}
 use Rattle.flags.specs.declared.RuleFlags.{RuleFlags}
-use Rattle.fillings.specs.Fillings.{Pack}
+use Rattle.fillings.specs.Fillings.{Config}
 use Rattle.states.specs.Readings.{allFlags}
 use Rattle.states.specs.Tracking.{recordAt}
 use Rattle.states.proofs.Tracking.{tracks}
@@ -35,17 +35,17 @@ never-unjudged tick a bytes number place l e f =
     let z : _≡_ {A = ℕ} 0 1 = cc in omega arith
 
 -- The bits, from the record that is known.
-pub alarms-known : {p : Pack} {holes samples : List ℕ} {m : ℕ} {c : Cursor} {words possible held : List ℕ} → At p holes samples m c words possible held
+pub alarms-known : {p : Config} {holes samples : List ℕ} {m : ℕ} {c : Cursor} {words possible held : List ℕ} → At p holes samples m c words possible held
     → (alarms : Alarms) → alarms ≡ alarmsOf (allFlags (p .settings) words) → alarms ≡ alarmsAt p (shows p samples) (c .tick)
 alarms-known {p} {samples = samples} {c = c} g alarms e =
     e
     ∙ ap (λ (ws : List ℕ). alarmsOf (allFlags (p .settings) ws)) (g .known .states)
     ∙ ap alarmsOf (tracks p (g .stands .short) (shows p samples) .reads (c .tick))
 
-pub point-kept : {p : Pack} {holes samples : List ℕ} {m : ℕ} {x : Point} {words possible held : List ℕ} (to : ℕ) → AtPoint p holes samples m x words possible held
+pub point-kept : {p : Config} {holes samples : List ℕ} {m : ℕ} {x : Point} {words possible held : List ℕ} (to : ℕ) → AtPoint p holes samples m x words possible held
     → x .cursor .tick ≤ to → to ≤ x .cursor .tick → Reached p holes samples m x to words possible held
 point-kept to g l n = record { there = g; at = omega arith }
 
-pub point-reached : {p : Pack} {holes samples : List ℕ} {m : ℕ} {c : Cursor} {to : ℕ} {words possible held : List ℕ} (alarms : Alarms) → Arrived p holes samples m c to words possible held
+pub point-reached : {p : Config} {holes samples : List ℕ} {m : ℕ} {c : Cursor} {to : ℕ} {words possible held : List ℕ} (alarms : Alarms) → Arrived p holes samples m c to words possible held
     → alarms ≡ alarmsOf (allFlags (p .settings) words) → Reached p holes samples m (record { cursor = c; alarms = alarms }) to words possible held
 point-reached alarms g e = record { there = record { there = g .there; alarms = alarms-known (g .there) alarms e }; at = g .at }

@@ -3,7 +3,7 @@ use Prim.Native.Nat.{ℕ}
 use mathlib.Core.List.{List}
 use lib.ListN.{length}
 use Rattle.refusals.specs.Refusals.{Answer, answer, refused, refusal}
-use Rattle.trace.specs.Acceptance.{Whole, acceptAnswer}
+use Rattle.trace.specs.Acceptance.{Parsed, acceptAnswer}
 use Rattle.ticks.specs.Traces.{traceOf}
 use Rattle.demands.specs.Report.{traceReport}
 use Rattle.demands.specs.Verdicts.{traceVerdicts}
@@ -16,17 +16,17 @@ answerOfJudged Accepted = answer tt
 answerOfJudged (Refused why) = refusal why
 
 -- Whether a trace is judged, given the lengths of the report and of the verdict buffer.
-abbrev pub judgeAnswer : Answer Whole → Answer (Unit {0})
+abbrev pub judgeAnswer : Answer Parsed → Answer (Unit {0})
 judgeAnswer (answer w) = answer tt
 judgeAnswer (refused number place) = refused number place
 
 -- A buffer afterwards: what an accepted trace puts there, or what it held.
-abbrev pub orKept : Answer Whole → (Whole → List ℕ) → List ℕ → List ℕ
+abbrev pub orKept : Answer Parsed → (Parsed → List ℕ) → List ℕ → List ℕ
 orKept (answer w) f buffer = f w
 orKept (refused number place) f buffer = buffer
 
 -- The acceptance of a trace with a report buffer and a verdict buffer.
-abbrev pub acceptance : List ℕ → List ℕ → List ℕ → Answer Whole
+abbrev pub acceptance : List ℕ → List ℕ → List ℕ → Answer Parsed
 acceptance s report verdicts = acceptAnswer s (length report) (length verdicts)
 
 -- The report buffer after the call.

@@ -25,7 +25,7 @@ pub fn judge(s: &[u8], report: &mut [u8], verdicts: &mut [u8]) -> Judged
     let accepted = trace::accept(s, report.len(), verdicts.len());
     let answer = accepted.answer;
     match answer {
-        Accepted::Unaccepted(why) => Judged::Refused(why),
+        Accepted::Refused(why) => Judged::Refused(why),
         Accepted::Covered(ticks) => {
             let layout = accepted.layout;
             let settings = accepted.settings;

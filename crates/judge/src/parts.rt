@@ -11,11 +11,11 @@ ghost use Rattle.totals.specs.Totals.{chargeSum, unseenSum};
 ghost use Rattle.ticks.specs.Traces.{traceOf};
 ghost use Rattle.demands.specs.Report.{flagsAt, firstsAt, traceReport};
 ghost use Rattle.demands.specs.Verdicts.{verdictOn, traceVerdicts};
-ghost use Rattle.judge.specs.Walk.{packOf, shows, startOf, AtPoint};
+ghost use Rattle.judge.specs.Walk.{configOf, shows, startOf, AtPoint};
 ghost use Rattle.judge.specs.Ending.{Parts};
 use crate::ending::totals_of;
 use crate::ending::write_end;
-use crate::replies::Pack;
+use crate::replies::Config;
 use crate::replies::Point;
 use crate::replies::judge_replies;
 use crate::replies::start_at;
@@ -33,16 +33,16 @@ fn judge_parts(
     report: &mut [u8],
     verdicts: &mut [u8],
 )
-    requires { ⌜ Parts (packOf cells idle (settings .of)) (now holes) (now replies) (now samples) ticks (length (now verdicts)) ⌝ }
-    ensures report { λ _. ⌜ now (report .exit) ≡ reported (flagsAt (packOf cells idle (settings .of)) (shows (packOf cells idle (settings .of)) (now (samples .entry))) ticks) (firstsAt (packOf cells idle (settings .of)) (shows (packOf cells idle (settings .of)) (now (samples .entry))) ticks) (record { «charge_in» = chargeSum inward cells (now (samples .entry)); «charge_out» = chargeSum outward cells (now (samples .entry)); unseen = unseenSum (now (holes .entry)); ticks = ticks }) (now (report .entry)) ⌝ }
-    ensures verdicts { λ _. ⌜ now (verdicts .exit) ≡ map (verdictOn (packOf cells idle (settings .of)) (shows (packOf cells idle (settings .of)) (now (samples .entry)))) (repliesIn (now (replies .entry))) ⌝ }
+    requires { ⌜ Parts (configOf cells idle (settings .of)) (now holes) (now replies) (now samples) ticks (length (now verdicts)) ⌝ }
+    ensures report { λ _. ⌜ now (report .exit) ≡ reported (flagsAt (configOf cells idle (settings .of)) (shows (configOf cells idle (settings .of)) (now (samples .entry))) ticks) (firstsAt (configOf cells idle (settings .of)) (shows (configOf cells idle (settings .of)) (now (samples .entry))) ticks) (record { «charge_in» = chargeSum inward cells (now (samples .entry)); «charge_out» = chargeSum outward cells (now (samples .entry)); unseen = unseenSum (now (holes .entry)); ticks = ticks }) (now (report .entry)) ⌝ }
+    ensures verdicts { λ _. ⌜ now (verdicts .exit) ≡ map (verdictOn (configOf cells idle (settings .of)) (shows (configOf cells idle (settings .of)) (now (samples .entry)))) (repliesIn (now (replies .entry))) ⌝ }
 {
     let begun = states::States::begin();
     let mut words = begun.words;
     let mut possible = [0xFFFFFFFFu32; 16];
     let mut held = [0xFFFFFFFFu32; 16];
     let start = start_at(holes, samples, cells, settings, &words);
-    let pack = Pack {
+    let config = Config {
         cells,
         idle,
         settings,
@@ -51,7 +51,7 @@ fn judge_parts(
         holes,
         samples,
         replies,
-        pack,
+        config,
         ticks,
         start,
         &mut words,

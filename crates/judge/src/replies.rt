@@ -9,7 +9,7 @@ ghost use Rattle.trace.specs.Coverage.{repliesAnswer};
 ghost use Rattle.states.specs.Readings.{allFlags};
 ghost use Rattle.verdicts.specs.Verdicts.{verdictOf};
 ghost use Rattle.demands.specs.Verdicts.{verdictOn};
-ghost use Rattle.judge.specs.Walk.{packIn, shows, alarmsOf, startOf, AtPoint, Reached, Known};
+ghost use Rattle.judge.specs.Walk.{configIn, shows, alarmsOf, startOf, AtPoint, Reached, Known};
 use crate::walk::Cursor;
 use crate::walk::advance;
 use flags::Output;
@@ -31,7 +31,7 @@ fn alarms_in(words: &[u64], settings: Settings) -> Alarms
 }
 
 // The head and the rules of a trace.
-pub(crate) struct Pack {
+pub(crate) struct Config {
     pub(crate) cells: u8,
     pub(crate) idle: u16,
     pub(crate) settings: Settings,
@@ -70,26 +70,26 @@ pub(crate) fn start_at(
 fn reach(
     holes: &[u8],
     samples: &[u8],
-    pack: Pack,
+    config: Config,
     at: Point,
     to: u32,
     words: &mut [u64],
     possible: &mut [u32],
     held: &mut [u32],
 ) -> Point
-    requires { ⌜ ((m : ℕ) × AtPoint (packIn pack) (now holes) (now samples) m at (now words) (now possible) (now held) × (at .cursor .tick ≤ to) × (to ≤ m)) ⌝ }
-    ensures { λ r. ⌜ ((m : ℕ) → AtPoint (packIn pack) (now (holes .entry)) (now (samples .entry)) m at (now (words .entry)) (now (possible .entry)) (now (held .entry)) → to ≤ m → Reached (packIn pack) (now (holes .entry)) (now (samples .entry)) m r to (now (words .exit)) (now (possible .exit)) (now (held .exit))) ⌝ }
+    requires { ⌜ ((m : ℕ) × AtPoint (configIn config) (now holes) (now samples) m at (now words) (now possible) (now held) × (at .cursor .tick ≤ to) × (to ≤ m)) ⌝ }
+    ensures { λ r. ⌜ ((m : ℕ) → AtPoint (configIn config) (now (holes .entry)) (now (samples .entry)) m at (now (words .entry)) (now (possible .entry)) (now (held .entry)) → to ≤ m → Reached (configIn config) (now (holes .entry)) (now (samples .entry)) m r to (now (words .exit)) (now (possible .exit)) (now (held .exit))) ⌝ }
 {
     let c = at.cursor;
     if to <= c.tick {
         return at;
     }
-    let settings = pack.settings;
+    let settings = config.settings;
     let cursor = advance(
         holes,
         samples,
-        pack.cells,
-        pack.idle,
+        config.cells,
+        config.idle,
         settings,
         c,
         to,
@@ -115,7 +115,7 @@ fn verdict_on(shown: Tick, alarms: Alarms, reply: &[u8]) -> u8
         Verdict::Agrees => 4,
         Verdict::Differs => 5,
         Verdict::CannotTell => 6,
-        Verdict::Unjudged(why) => 0,
+        Verdict::Refused(why) => 0,
     }
 }
 
@@ -124,7 +124,7 @@ pub(crate) fn judge_replies(
     holes: &[u8],
     samples: &[u8],
     replies: &[u8],
-    pack: Pack,
+    config: Config,
     ticks: u32,
     start: Point,
     words: &mut [u64],
@@ -132,21 +132,21 @@ pub(crate) fn judge_replies(
     held: &mut [u32],
     verdicts: &mut [u8],
 )
-    requires { ⌜ AtPoint (packIn pack) (now holes) (now samples) ticks start (now words) (now possible) (now held) × (start .cursor .tick ≤ 1) × (repliesAnswer ticks (repliesIn (now replies)) 0 0 ≡ answer tt) × (length (now verdicts) ≡ length (now replies) / 10) × (length (now replies) ≤ 655350) ⌝ }
-    ensures known { λ _. ⌜ Known (packIn pack) (now (samples .entry)) ticks (now (words .exit)) (now (possible .exit)) (now (held .exit)) ⌝ }
-    ensures verdicts { λ _. ⌜ now (verdicts .exit) ≡ map (verdictOn (packIn pack) (shows (packIn pack) (now (samples .entry)))) (repliesIn (now (replies .entry))) ⌝ }
+    requires { ⌜ AtPoint (configIn config) (now holes) (now samples) ticks start (now words) (now possible) (now held) × (start .cursor .tick ≤ 1) × (repliesAnswer ticks (repliesIn (now replies)) 0 0 ≡ answer tt) × (length (now verdicts) ≡ length (now replies) / 10) × (length (now replies) ≤ 655350) ⌝ }
+    ensures known { λ _. ⌜ Known (configIn config) (now (samples .entry)) ticks (now (words .exit)) (now (possible .exit)) (now (held .exit)) ⌝ }
+    ensures verdicts { λ _. ⌜ now (verdicts .exit) ≡ map (verdictOn (configIn config) (shows (configIn config) (now (samples .entry)))) (repliesIn (now (replies .entry))) ⌝ }
 {
     let mut x = start;
     let mut j: usize = 0;
     while j < verdicts.len() {
         let at = j * 10;
         let to = bytes_le::u32_at(replies, at) + 1;
-        x = reach(holes, samples, pack, x, to, words, possible, held);
+        x = reach(holes, samples, config, x, to, words, possible, held);
         let c = x.cursor;
         let shown = c.shown;
         let alarms = x.alarms;
         verdicts[j] = verdict_on(shown, alarms, &replies[at + 4..at + 10]);
         j += 1;
     }
-    reach(holes, samples, pack, x, ticks, words, possible, held);
+    reach(holes, samples, config, x, ticks, words, possible, held);
 }

@@ -21,7 +21,7 @@ use Rattle.rules.specs.declared.Side.the-variants.{High, Low}
 use Rattle.rules.specs.declared.Row.{Row}
 use Rattle.limits.specs.declared.RuleSet.{RuleSet}
 use Rattle.rules.specs.declared.Setting.{Setting}
-use Rattle.limits.specs.declared.Limited.the-variants.{Outside}
+use Rattle.limits.specs.declared.Limited.the-variants.{Refused}
 use Rattle.limits.specs.declared.Checked.{Checked}
 use Rattle.limits.specs.declared.Checked.the-variants.{Accepted, Beyond}
 use Rattle.rules.specs.Table.{rowAt}
@@ -200,6 +200,6 @@ rule-within n (r′ ∷ rs) (s′ ∷ ss) i h (suc j) r s a b = rule-within n rs
 
 -- A refused rule set.
 pub refuses : {r : RuleSet} {why : Refusal} {a : Answer (Unit {0})} (ss : List Setting)
-    → (r .answer ≡ Outside why) × (r .settings .of ≡ tabulateFrom 0 16 (λ i. off)) → a ≡ refusal why
+    → (r .answer ≡ Refused why) × (r .settings .of ≡ tabulateFrom 0 16 (λ i. off)) → a ≡ refusal why
     → (answerOfLimits (r .answer) ≡ a) × (r .settings .of ≡ settingsIf a ss)
 refuses ss (e, f) h = (rw (e, h), rw (f, h))

@@ -13,7 +13,7 @@ use Rattle.rules.specs.declared.Side.the-variants.{High, Low}
 use Rattle.rules.specs.declared.Row.{Row}
 use Rattle.rules.specs.declared.Setting.{Setting}
 use Rattle.limits.specs.declared.Limited.{Limited}
-use Rattle.limits.specs.declared.Limited.the-variants.{Within, Outside}
+use Rattle.limits.specs.declared.Limited.the-variants.{Within, Refused}
 use Rattle.rules.specs.Table.{rows}
 use Rattle.rules.specs.Quantities.{least, most}
 
@@ -57,11 +57,11 @@ limitsAnswer n (row ∷ rows) (s ∷ ss) i = cond (limits n row s) (limitsAnswer
 -- What the check of a rule set answers, in the paper's numbers.
 abbrev pub answerOfLimits : Limited → Answer (Unit {0})
 answerOfLimits Within = answer tt
-answerOfLimits (Outside why) = refusal why
+answerOfLimits (Refused why) = refusal why
 
 -- The check of a rule set for n cells: refusal 3 unless n is 3 to 12, 6 unless it has 160 bytes, then 7.
-unfoldable pub rulesAnswer : ℕ → List ℕ → Answer (Unit {0})
-rulesAnswer n bytes =
+unfoldable pub ruleSetAnswer : ℕ → List ℕ → Answer (Unit {0})
+ruleSetAnswer n bytes =
     cond (leb 3 n && leb n 12) (cond (eqb (length bytes) 160) (limitsAnswer n rows (settingsOf bytes) 0) (refused 6 0)) (refused 3 0)
 
 -- A rule that is switched off.

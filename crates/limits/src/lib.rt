@@ -3,7 +3,7 @@ ghost use mathlib.Core.Path.{_≡_};
 ghost use mathlib.Core.Bool.{cond};
 ghost use Prim.Native.Nat.{_<_};
 ghost use Rattle.rules.specs.Table.{rows, rowAt};
-ghost use Rattle.limits.specs.Limits.{limits, off, tabulateFrom, settingAt, settingsOf, settingsIf, limitsAnswer, answerOfLimits, rulesAnswer};
+ghost use Rattle.limits.specs.Limits.{limits, off, tabulateFrom, settingAt, settingsOf, settingsIf, limitsAnswer, answerOfLimits, ruleSetAnswer};
 
 mod rule;
 mod settings;
@@ -17,7 +17,7 @@ pub use settings::check_settings;
 
 pub enum Limited {
     Within,
-    Outside(Refusal),
+    Refused(Refusal),
 }
 
 // A rule set that was checked, and its settings: all off where it is refused.
@@ -51,10 +51,10 @@ fn check_rule(cells: u8, bytes: &[u8], i: usize) -> Checked
 
 // A refused rule set, with every rule switched off.
 fn refuse(why: Refusal) -> RuleSet
-    ensures { λ r. ⌜ (r .answer ≡ Limited.Outside why) × (r .settings .of ≡ tabulateFrom 0 16 (λ i. off)) ⌝ }
+    ensures { λ r. ⌜ (r .answer ≡ Limited.Refused why) × (r .settings .of ≡ tabulateFrom 0 16 (λ i. off)) ⌝ }
 {
     RuleSet {
-        answer: Limited::Outside(why),
+        answer: Limited::Refused(why),
         settings: Settings {
             of: [Setting {
                 threshold: 0,
@@ -91,8 +91,8 @@ fn check_each(cells: u8, bytes: &[u8]) -> RuleSet
 
 // Checks a rule set for packs of `cells` cells, and hands on its settings.
 pub fn check_rules(cells: u8, bytes: &[u8]) -> RuleSet
-    ensures answer { λ r. ⌜ answerOfLimits (r .answer) ≡ rulesAnswer cells (now (bytes .entry)) ⌝ }
-    ensures settings { λ r. ⌜ r .settings .of ≡ settingsIf (rulesAnswer cells (now (bytes .entry))) (settingsOf (now (bytes .entry))) ⌝ }
+    ensures answer { λ r. ⌜ answerOfLimits (r .answer) ≡ ruleSetAnswer cells (now (bytes .entry)) ⌝ }
+    ensures settings { λ r. ⌜ r .settings .of ≡ settingsIf (ruleSetAnswer cells (now (bytes .entry))) (settingsOf (now (bytes .entry))) ⌝ }
 {
     if cells < 3 {
         return refuse(Refusal::CellCount);

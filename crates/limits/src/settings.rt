@@ -33,7 +33,7 @@ pub fn check_settings(cells: u8, settings: Settings) -> Limited
         if accepts_setting(cells, row, setting) {
             i += 1;
         } else {
-            return Limited::Outside(Refusal::Limits { rule: i as u32 });
+            return Limited::Refused(Refusal::Limits { rule: i as u32 });
         }
     }
     Limited::Within

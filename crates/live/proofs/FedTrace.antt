@@ -16,8 +16,8 @@ use Rattle.rules.proofs.CellCount.{in-range}
 use Rattle.limits.specs.Limits.{off, tabulateFrom, settingsOf}
 use Rattle.trace.specs.Records.{Hole, Stamped, u16sFrom, i16sFrom, samplesFrom, sampleWidth}
 use Rattle.trace.specs.Sections.{andThen, rulesPart, samplesPart}
-use Rattle.trace.specs.Acceptance.{Whole, acceptAnswer}
-use Rattle.fillings.specs.Fillings.{Pack, Shown, seen, unseen}
+use Rattle.trace.specs.Acceptance.{Parsed, acceptAnswer}
+use Rattle.fillings.specs.Fillings.{Config, Shown, seen, unseen}
 use Rattle.fillings.specs.Charge.{inward, outward, ofSeen, ofUnseen, total, chargeIn, chargeOut, unseenTicks}
 use Rattle.fillings.proofs.Bools.{is-true}
 use Rattle.flags.specs.declared.Output.{Output}
@@ -89,7 +89,7 @@ fed-next : (s : Live) (e : Event) (es : List Event) (t : Live) → feedAnswer s 
 unfolding feed
 fed-next s e es t a b = ap (λ r. andThen r (λ taken. feed (feedState s e) es)) a ∙ ap (λ (x : Live). feed x es) b
 
-module _ (p : Pack) (short : ShortTimes p) (all : List Stamped) where
+module _ (p : Config) (short : ShortTimes p) (all : List Stamped) where
   -- What the trace gives once the first k ticks have passed.
   abbrev stateAt : ℕ → Live
   stateAt k =
@@ -177,7 +177,7 @@ module _ (p : Pack) (short : ShortTimes p) (all : List Stamped) where
       let (d, n) = walked k hs xs (suc e) r (omega arith) (same-later all x xs e a s) ls cs g in
       (ap (feed (stateAt e)) (sample-next k hs x xs e a c) ∙ fed-next (stateAt e) (events.sample x) (byTick k hs xs) (stateAt (suc e)) y z ∙ d, n)
 
-module _ (s : List ℕ) (report verdicts : ℕ) (w : Whole) (h : acceptAnswer s report verdicts ≡ answer w) where
+module _ (s : List ℕ) (report verdicts : ℕ) (w : Parsed) (h : acceptAnswer s report verdicts ≡ answer w) where
   abbrev tr : Trace
   tr = traceOf s w
 
@@ -187,32 +187,32 @@ module _ (s : List ℕ) (report verdicts : ℕ) (w : Whole) (h : acceptAnswer s 
   settings : w .settings ≡ settingsOf (rulesPart s)
   settings = checks s report verdicts w h .settings
 
-  short : ShortTimes (tr .pack)
+  short : ShortTimes (tr .config)
   short =
       let l : length (w .settings) ≤ 16 = rw settings (omega arith) in
-      short-times (tr .pack) (ok .rules) l
+      short-times (tr .config) (ok .rules) l
 
   begun-as : beginAnswer (w .layout .cells) (w .layout .idle) (rulesPart s) ≡ answer tt
   begun-as =
       let r = ok .rules 0 (omega arith) in
       as-rules (w .layout .cells) (w .layout .idle) (rulesPart s) (in-range (r .leastCells) (r .mostCells)) (r .idle) ∙ checks s report verdicts w h .rules
 
-  starts : beginState (w .layout .cells) (w .layout .idle) (rulesPart s) ≡ stateAt (tr .pack) short (tr .samples) 0
+  starts : beginState (w .layout .cells) (w .layout .idle) (rulesPart s) ≡ stateAt (tr .config) short (tr .samples) 0
   starts =
       ap (λ a. orKept a (begun (w .layout .cells) (w .layout .idle) (settingsOf (rulesPart s))) (begun 3 0 (tabulateFrom 0 16 (λ i. off)))) begun-as
       ∙ ap (begun (w .layout .cells) (w .layout .idle)) (sym settings)
-      ∙ begins (tr .pack) short (tr .samples)
+      ∙ begins (tr .config) short (tr .samples)
 
-  ends : (feed (stateAt (tr .pack) short (tr .samples) 0) (byTick (length (tr .holes) + length (tr .samples)) (tr .holes) (tr .samples)) ≡ answer (endOf tr)) × T (good (endOf tr))
+  ends : (feed (stateAt (tr .config) short (tr .samples) 0) (byTick (length (tr .holes) + length (tr .samples)) (tr .holes) (tr .samples)) ≡ answer (endOf tr)) × T (good (endOf tr))
   ends =
-      walked (tr .pack) short (tr .samples) (length (tr .holes) + length (tr .samples)) (tr .holes) (tr .samples) 0 (place-start tr ok) refl (λ t l. refl)
+      walked (tr .config) short (tr .samples) (length (tr .holes) + length (tr .samples)) (tr .holes) (tr .samples) 0 (place-start tr ok) refl (λ t l. refl)
       (long (w .layout .cells) (samplesPart s (w .layout)) _ 0) (currents (w .layout .cells) (samplesPart s (w .layout)) _ 0)
       (subst (λ (x : Live). T (good x)) starts (stays-good .begins (w .layout .cells) (w .layout .idle) (rulesPart s)))
 
   reads : ReadsTrace tr
   reads =
       let g = is-true (good (endOf tr)) (ends .1) in
-      let f = tracks (tr .pack) short (shown tr) .reads (tr .ticks) in
+      let f = tracks (tr .config) short (shown tr) .reads (tr .ticks) in
       record {
         flags = rw g f;
         outputs = λ o. rw g (ap (λ (fs : List RuleFlags). answer (outputOf (drivers o) rows (statusesOf fs))) f);

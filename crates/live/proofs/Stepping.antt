@@ -13,7 +13,7 @@ use Rattle.refusals.specs.Refusals.{Answer, answer, refused, refusal}
 use Rattle.rules.specs.declared.Settings.{Settings}
 use Rattle.rules.specs.declared.Readings.{Readings}
 use Rattle.rules.specs.Samples.{Sample, readingsOf}
-use Rattle.limits.specs.Limits.{off, tabulateFrom, settingsOf, settingsIf, rulesAnswer}
+use Rattle.limits.specs.Limits.{off, tabulateFrom, settingsOf, settingsIf, ruleSetAnswer}
 use Rattle.readings.specs.Answers.{readAnswer}
 use Rattle.fillings.specs.Charge.{inward, outward}
 use Rattle.report.specs.declared.Totals.{Totals}
@@ -64,8 +64,8 @@ module _ (n idle : ℕ) (bytes : List ℕ) where
       → (answerOfFed (r .answer) ≡ beginAnswer n idle bytes) × (r .state ≡ beginState n idle bytes)
   begin-refused e h = (rw (e, h), rw (e, h))
 
-  pub begin-taken : {st : Live} {ss : Settings} → st ≡ begun n idle (ss .of) → answer tt ≡ rulesAnswer n bytes → ss .of ≡ settingsIf (rulesAnswer n bytes) (settingsOf bytes)
-      → beginAnswer n idle bytes ≡ rulesAnswer n bytes → (answer tt ≡ beginAnswer n idle bytes) × (st ≡ beginState n idle bytes)
+  pub begin-taken : {st : Live} {ss : Settings} → st ≡ begun n idle (ss .of) → answer tt ≡ ruleSetAnswer n bytes → ss .of ≡ settingsIf (ruleSetAnswer n bytes) (settingsOf bytes)
+      → beginAnswer n idle bytes ≡ ruleSetAnswer n bytes → (answer tt ≡ beginAnswer n idle bytes) × (st ≡ beginState n idle bytes)
   begin-taken {ss = ss} e h f b =
       let a : beginAnswer n idle bytes ≡ answer tt = b ∙ sym h in
       let k : ss .of ≡ settingsOf bytes = rw (← h) at f in
@@ -79,8 +79,8 @@ module _ (n idle : ℕ) (bytes : List ℕ) where
   unfolding beginAnswer
   idle-over h l = rw (h, lt-leb idle 32766 l)
 
-  pub as-rules : (leb 3 n && leb n 12) ≡ true → idle ≤ 32766 → beginAnswer n idle bytes ≡ rulesAnswer n bytes
-  unfolding beginAnswer rulesAnswer
+  pub as-rules : (leb 3 n && leb n 12) ≡ true → idle ≤ 32766 → beginAnswer n idle bytes ≡ ruleSetAnswer n bytes
+  unfolding beginAnswer ruleSetAnswer
   as-rules h l = rw (h, le-leb idle 32766 l)
 
 -- The new states, as code makes them.

@@ -22,7 +22,7 @@ use Rattle.live.specs.declared.Live.{Live}
 use Rattle.live.specs.declared.Fed.{Fed}
 use Rattle.live.specs.declared.Fed.the-variants.{Taken, Refused}
 use Rattle.live.specs.declared.OutputRead.{OutputRead}
-use Rattle.live.specs.declared.OutputRead.the-variants.{Reads, NoState}
+use Rattle.live.specs.declared.OutputRead.the-variants as outputs
 use Rattle.live.specs.declared.TotalsRead.{TotalsRead}
 use Rattle.live.specs.declared.TotalsRead.the-variants as totals
 use Rattle.live.specs.State.{good, begun, withSample, withHole}
@@ -81,8 +81,8 @@ abbrev pub outputRead : Live → Output → Answer Flag
 outputRead s o = ofGood s (outputOf (drivers o) rows (statusesOf (allFlags (s .settings .of) (s .states .words))))
 
 abbrev pub answerOfOutput : OutputRead → Answer Flag
-answerOfOutput (Reads f) = answer f
-answerOfOutput (NoState why) = refusal why
+answerOfOutput (outputs.Reads f) = answer f
+answerOfOutput (outputs.Refused why) = refusal why
 
 -- Charge in and out, unseen ticks, ticks.
 abbrev pub totalsRead : Live → Answer Totals
@@ -90,7 +90,7 @@ totalsRead s = ofGood s (s .totals)
 
 abbrev pub answerOfTotals : TotalsRead → Answer Totals
 answerOfTotals (totals.Counted t) = answer t
-answerOfTotals (totals.Uncounted why) = refusal why
+answerOfTotals (totals.Refused why) = refusal why
 
 -- The bounds of the net charge: in − out − 32,768 × unseen and in − out + 32,767 × unseen.
 abbrev pub netRead : Live → Answer Bounds

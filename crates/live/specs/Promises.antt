@@ -9,12 +9,12 @@ use Rattle.refusals.specs.Refusals.{Answer, answer, refused}
 use Rattle.rules.specs.Samples.{Sample, I16}
 use Rattle.trace.specs.Records.{Hole, Stamped}
 use Rattle.trace.specs.Sections.{andThen, rulesPart}
-use Rattle.trace.specs.Acceptance.{Whole, acceptAnswer}
+use Rattle.trace.specs.Acceptance.{Parsed, acceptAnswer}
 use Rattle.states.specs.Readings.{allFlags}
 use Rattle.states.specs.Tracking.{recordAt}
 use Rattle.flags.specs.declared.Output.{Output}
 use Rattle.flags.specs.Outputs.{drivers}
-use Rattle.fillings.specs.Fillings.{Pack}
+use Rattle.fillings.specs.Fillings.{Config}
 use Rattle.fillings.specs.Outputs.{output}
 use Rattle.fillings.specs.Charge.{leastCharge, greatestCharge}
 use Rattle.ticks.specs.Traces.{Trace, traceOf, shown}
@@ -64,23 +64,23 @@ feed s (e ∷ es) = andThen (feedAnswer s e) (λ taken. feed (feedState s e) es)
 abbrev pub endOf : Trace → Live
 endOf tr =
     record {
-      cells = tr .pack .cells;
-      idle = tr .pack .idle;
-      settings = record { of = tr .pack .settings };
-      states = record { words = recordAt (tr .pack) (shown tr) (tr .ticks) };
+      cells = tr .config .cells;
+      idle = tr .config .idle;
+      settings = record { of = tr .config .settings };
+      states = record { words = recordAt (tr .config) (shown tr) (tr .ticks) };
       totals = totalsAt (shown tr) (tr .ticks);
     }
 
 -- What the reading calls answer at the end of a trace is what the trace gives.
 pub record ReadsTrace (tr : Trace) : Type 0 where
-  pub flags : flagsRead (endOf tr) ≡ flagsAt (tr .pack) (shown tr) (tr .ticks)
-  pub outputs : (o : Output) → outputRead (endOf tr) o ≡ answer (output (drivers o) (tr .pack) (shown tr) (tr .ticks))
+  pub flags : flagsRead (endOf tr) ≡ flagsAt (tr .config) (shown tr) (tr .ticks)
+  pub outputs : (o : Output) → outputRead (endOf tr) o ≡ answer (output (drivers o) (tr .config) (shown tr) (tr .ticks))
   pub totals : totalsRead (endOf tr) ≡ answer (totalsAt (shown tr) (tr .ticks))
   pub net : netRead (endOf tr) ≡ answer (record { least = leastCharge (shown tr) (tr .ticks); greatest = greatestCharge (shown tr) (tr .ticks) })
 
 -- Fed an accepted trace from its own beginning, no call refuses, the state ends with the trace's possible states and totals, and the reading calls give its flags, outputs, bits, totals and net charge bounds.
 abbrev pub FedTrace : Type 0
-FedTrace = (s : List ℕ) (report verdicts : ℕ) (w : Whole) → acceptAnswer s report verdicts ≡ answer w
+FedTrace = (s : List ℕ) (report verdicts : ℕ) (w : Parsed) → acceptAnswer s report verdicts ≡ answer w
     → (beginAnswer (w .layout .cells) (w .layout .idle) (rulesPart s) ≡ answer tt)
     × (feed (beginState (w .layout .cells) (w .layout .idle) (rulesPart s)) (eventsOf (traceOf s w)) ≡ answer (endOf (traceOf s w)))
     × ReadsTrace (traceOf s w)

@@ -21,7 +21,7 @@ fn rules_within(cells: u8, settings: Settings) -> bool
 {
     match limits::check_settings(cells, settings) {
         Limited::Within => true,
-        Limited::Outside(why) => false,
+        Limited::Refused(why) => false,
     }
 }
 

@@ -63,7 +63,7 @@ pub fn begin(cells: u8, idle: u16, rules: &[u8]) -> Step
     let answer = checked.answer;
     let settings = checked.settings;
     match answer {
-        Limited::Outside(why) => refuse_begin(why),
+        Limited::Refused(why) => refuse_begin(why),
         Limited::Within => {
             let state = begun(cells, idle, settings);
             Step {
@@ -134,7 +134,7 @@ pub fn flags(state: Live) -> FlagsRead
 
 pub enum OutputRead {
     Reads(Flag),
-    NoState(Refusal),
+    Refused(Refusal),
 }
 
 // C open, D open, the fuse, or one of the three bits of BatteryStatus.
@@ -147,12 +147,12 @@ pub fn output(state: Live, o: Output) -> OutputRead
         let flags = states.flags(settings);
         return OutputRead::Reads(flags::output_of(flags, o));
     }
-    OutputRead::NoState(Refusal::State)
+    OutputRead::Refused(Refusal::State)
 }
 
 pub enum TotalsRead {
     Counted(Totals),
-    Uncounted(Refusal),
+    Refused(Refusal),
 }
 
 // Charge in and out, unseen ticks, ticks.
@@ -163,7 +163,7 @@ pub fn totals(state: Live) -> TotalsRead
         let counted = state.totals;
         return TotalsRead::Counted(counted);
     }
-    TotalsRead::Uncounted(Refusal::State)
+    TotalsRead::Refused(Refusal::State)
 }
 
 // The least and the greatest net charge, in mA seconds.

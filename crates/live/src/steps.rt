@@ -121,7 +121,7 @@ pub(crate) fn take_sample(
     ensures { λ r. ⌜ Stepped r (sampleAnswer state tick (record { current = current; board = board; volts = now (volts .entry); temps = now (temps .entry) })) (withSample state (record { current = current; board = board; volts = now (volts .entry); temps = now (temps .entry) })) state ⌝ }
 {
     match readings::read_sample(state.cells, current, board, volts, temps) {
-        Read::Untaken(why) => refuse(why, state),
+        Read::Refused(why) => refuse(why, state),
         Read::Taken(readings) => take_readings(state, tick, current, readings),
     }
 }

@@ -158,7 +158,7 @@ fn try_output(case: &[u8], state: Live) {
     start_line(b"output", case);
     match live::output(state, Output::ChargeOpen) {
         OutputRead::Reads(flag) => write_number(b"C reads ", flags::number(flag) as u64),
-        OutputRead::NoState(why) => write_refusal(why),
+        OutputRead::Refused(why) => write_refusal(why),
     }
     write(b"\n");
 }
@@ -172,7 +172,7 @@ fn try_totals(case: &[u8], state: Live) {
             write_number(b", unseen ", counted.unseen as u64);
             write_number(b", ticks ", counted.ticks as u64);
         }
-        TotalsRead::Uncounted(why) => write_refusal(why),
+        TotalsRead::Refused(why) => write_refusal(why),
     }
     write(b"\n");
 }

@@ -9,7 +9,7 @@ use lib.ListN.{length, getD, take, set}
 use borrow.Author.Tests.{eq-eqb, ne-eqb}
 use Rattle.refusals.specs.Refusals.{answer, refused}
 use Rattle.pec.specs.Code.{pecOf}
-use Rattle.pec.specs.Reply.{body, sealAnswer, sealed, verdictOf, checkAnswer}
+use Rattle.pec.specs.Reply.{body, sealAnswer, sealed, checkVerdict, checkAnswer}
 
 -- What holds of every six bytes holds of a list of that length.
 six : (P : List ℕ → Type 0) → ((a b c d e f : ℕ) → P (a ∷ b ∷ c ∷ d ∷ e ∷ f ∷ [])) → (s : List ℕ) → length s ≡ 6 → P s
@@ -38,21 +38,21 @@ module _ (s : List ℕ) where
     seal-done = rw (eq-eqb (length s) 6 h)
 
     pub check-wrong-first : (getD s 0 0 ≡ 0x16 → ⊥) → answer 1 ≡ checkAnswer s
-    unfolding verdictOf
+    unfolding checkVerdict
     check-wrong-first a = rw (eq-eqb (length s) 6 h, ne-eqb (getD s 0 0) 0x16 a)
 
     pub check-wrong-third : getD s 0 0 ≡ 0x16 → (getD s 2 0 ≡ 0x17 → ⊥) → answer 1 ≡ checkAnswer s
-    unfolding verdictOf
+    unfolding checkVerdict
     check-wrong-third a b = rw (eq-eqb (length s) 6 h, eq-eqb (getD s 0 0) 0x16 a, ne-eqb (getD s 2 0) 0x17 b)
 
     module _ (a : getD s 0 0 ≡ 0x16) (b : getD s 2 0 ≡ 0x17) where
       pub check-wrong-code : (pecOf (take 5 s) ≡ getD s 5 0 → ⊥) → answer 2 ≡ checkAnswer s
-      unfolding verdictOf
+      unfolding checkVerdict
       check-wrong-code p =
           rw (eq-eqb (length s) 6 h, eq-eqb (getD s 0 0) 0x16 a, eq-eqb (getD s 2 0) 0x17 b, ne-eqb (pecOf (take 5 s)) (getD s 5 0) p)
 
       pub check-whole : pecOf (take 5 s) ≡ getD s 5 0 → answer 0 ≡ checkAnswer s
-      unfolding verdictOf
+      unfolding checkVerdict
       check-whole p =
           rw (eq-eqb (length s) 6 h, eq-eqb (getD s 0 0) 0x16 a, eq-eqb (getD s 2 0) 0x17 b, eq-eqb (pecOf (take 5 s)) (getD s 5 0) p)
 

@@ -23,7 +23,7 @@ pub fn pec(message: &[u8]) -> u8
 
 pub enum Sealed {
     Written,
-    Unwritten(Refusal),
+    Refused(Refusal),
 }
 
 // Writes the six bytes of a read-word reply: address, command, address, low, high, PEC.
@@ -32,7 +32,7 @@ pub fn seal(command: u8, word: u16, buffer: &mut [u8]) -> Sealed
     ensures bytes { λ r. ⌜ now (buffer .exit) ≡ sealed command word (now (buffer .entry)) ⌝ }
 {
     if buffer.len() != 6 {
-        return Sealed::Unwritten(Refusal::BufferLength);
+        return Sealed::Refused(Refusal::BufferLength);
     }
     buffer[0] = 0x16;
     buffer[1] = command;
@@ -45,10 +45,10 @@ pub fn seal(command: u8, word: u16, buffer: &mut [u8]) -> Sealed
 }
 
 pub enum Checked {
-    Whole,
+    Intact,
     WrongAddress,
     WrongCode,
-    Unchecked(Refusal),
+    Refused(Refusal),
 }
 
 // Whether six bytes are a read-word reply of the pack with the right packet error code.
@@ -56,7 +56,7 @@ pub fn check(reply: &[u8]) -> Checked
     ensures { λ r. ⌜ answerOfCheck r ≡ checkAnswer (now (reply .entry)) ⌝ }
 {
     if reply.len() != 6 {
-        return Checked::Unchecked(Refusal::BufferLength);
+        return Checked::Refused(Refusal::BufferLength);
     }
     if reply[0] != 0x16 {
         return Checked::WrongAddress;
@@ -68,5 +68,5 @@ pub fn check(reply: &[u8]) -> Checked
     if code != reply[5] {
         return Checked::WrongCode;
     }
-    Checked::Whole
+    Checked::Intact
 }

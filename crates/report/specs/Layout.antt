@@ -15,7 +15,7 @@ use Rattle.report.specs.Bytes.{bytesOf}
 use Rattle.report.specs.declared.FirstTicks.{FirstTicks}
 use Rattle.report.specs.declared.Totals.{Totals}
 use Rattle.report.specs.declared.Reported.{Reported}
-use Rattle.report.specs.declared.Reported.the-variants.{Written, Unwritten}
+use Rattle.report.specs.declared.Reported.the-variants.{Written, Refused}
 
 -- Per rule: alert, status, the first tick at which status is held or unknown, the first tick at which it is held.
 abbrev pub ruleBytes : RuleFlags → FirstTicks → List ℕ
@@ -46,7 +46,7 @@ reportBytes fs ts t = rulesBytes fs ts ++ outputBytes fs ++ totalBytes t
 -- What `write_report` answers, in the paper's numbers.
 abbrev pub answerOfReport : Reported → Answer (Unit {0})
 answerOfReport Written = answer tt
-answerOfReport (Unwritten why) = refusal why
+answerOfReport (Refused why) = refusal why
 
 -- Refusal 12 for a buffer that is not 187 bytes long.
 abbrev pub reportAnswer : List ℕ → Answer (Unit {0})

@@ -29,7 +29,7 @@ pub struct Totals {
 
 pub enum Reported {
     Written,
-    Unwritten(Refusal),
+    Refused(Refusal),
 }
 
 // Writes the report into a buffer of 187 bytes.
@@ -43,7 +43,7 @@ pub fn write_report(
     ensures bytes { λ r. ⌜ now (buffer .exit) ≡ reported (flags .of) (firsts .of) totals (now (buffer .entry)) ⌝ }
 {
     if buffer.len() != 187 {
-        return Reported::Unwritten(Refusal::ReportLength);
+        return Reported::Refused(Refusal::ReportLength);
     }
     parts::put_rules(buffer, flags, firsts);
     parts::put_outputs(buffer, flags);

@@ -12,7 +12,7 @@ use Rattle.rules.specs.Samples.{Sample, readingsOf}
 use Rattle.rules.specs.Table.{rowAt}
 use Rattle.rules.specs.Evaluation.{trips, clears, top, evaluated, alert, status}
 use Rattle.flags.specs.declared.RuleFlags.{RuleFlags}
-use Rattle.fillings.specs.Fillings.{Rule, last, Shown, seen, unseen, Pack, ruleOf}
+use Rattle.fillings.specs.Fillings.{Rule, last, Shown, seen, unseen, Config, ruleOf}
 use Rattle.fillings.specs.PossibleStates.{tabulate, Moves, found, moves, next, start, possible, unseenTimes}
 use Rattle.fillings.specs.Flags.{flag, alertFlag, statusFlag}
 use Rattle.fillings.specs.Demand3.{evaluations}
@@ -76,7 +76,7 @@ no-evaluation r trace a b h u e =
     (possible-hole r trace a (suc b) (omega arith) (λ t l g. u t l (omega arith))
     ∙ ap (λ (n : ℕ). unseenTimes n (last r) (r .row .recovers) (possible r trace a)) e)
 
-module _ (p : Pack) (short : ShortTimes p) (trace : ℕ → Shown) where
+module _ (p : Config) (short : ShortTimes p) (trace : ℕ → Shown) where
   abbrev P : ℕ → ℕ → List Bool
   P k i = possible (ruleOf p i) trace k
 
@@ -146,6 +146,6 @@ module _ (p : Pack) (short : ShortTimes p) (trace : ℕ → Shown) where
       ∙ sym (getD-tabulate 16 (λ j. record { alert = alertFlag (ruleOf p j) trace k; status = statusFlag (ruleOf p j) trace k }) unknown i g))
 
 -- The record follows every trace whose times are at most 255.
-pub tracks : (p : Pack) → ShortTimes p → (trace : ℕ → Shown) → Tracks p trace
+pub tracks : (p : Config) → ShortTimes p → (trace : ℕ → Shown) → Tracks p trace
 tracks p short trace =
     record { begins = begins p short trace; sees = sees p short trace; misses = misses p short trace; reads = reads p short trace }

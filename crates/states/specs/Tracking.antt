@@ -5,7 +5,7 @@ use mathlib.Core.List.{List}
 use lib.Dec.{T}
 use Rattle.rules.specs.declared.Setting.{Setting}
 use Rattle.rules.specs.Samples.{Sample, readingsOf}
-use Rattle.fillings.specs.Fillings.{Shown, seen, unseen, Pack, ruleOf}
+use Rattle.fillings.specs.Fillings.{Shown, seen, unseen, Config, ruleOf}
 use Rattle.fillings.specs.PossibleStates.{tabulate, possible}
 use Rattle.fillings.specs.Flags.{alertFlag, statusFlag}
 use Rattle.states.specs.Records.{Fit64, packed, fresh}
@@ -14,15 +14,15 @@ use Rattle.states.specs.Readings.{allFlags}
 use Rattle.states.specs.Validity.{validRecord}
 
 -- The record of the possible states once the first k ticks have passed.
-abbrev pub recordAt : Pack → (ℕ → Shown) → ℕ → List ℕ
+abbrev pub recordAt : Config → (ℕ → Shown) → ℕ → List ℕ
 recordAt p trace k = packed (λ i. possible (ruleOf p i) trace k)
 
 -- No time is over 255.
-abbrev pub ShortTimes : Pack → Type 0
+abbrev pub ShortTimes : Config → Type 0
 ShortTimes p = (i : ℕ) → settingOf (p .settings) i .time ≤ 255
 
 -- What the code's record has to do with a trace: it begins with the possible states, each step keeps them, and its flags are the trace's.
-pub record Tracks (p : Pack) (trace : ℕ → Shown) : Type 0 where
+pub record Tracks (p : Config) (trace : ℕ → Shown) : Type 0 where
   pub begins : fresh ≡ recordAt p trace 0
   pub sees : (k : ℕ) (x : Sample) → trace k ≡ seen x → afterSeen (p .settings) (p .idle) k (readingsOf x) (recordAt p trace k) ≡ recordAt p trace (suc k)
   pub misses : (first last : ℕ) → first ≤ last → ((t : ℕ) → first ≤ t → t ≤ last → trace t ≡ unseen)

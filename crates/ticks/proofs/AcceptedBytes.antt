@@ -18,36 +18,36 @@ use Rattle.limits.proofs.RuleSets.{time-small, rule-within}
 use Rattle.trace.specs.Records.{Hole, Reply, Stamped, sampleWidth}
 use Rattle.trace.specs.Sections.{andThen, headAnswer, rulesAnswer, sectionAnswer, walkAnswer, rulesPart}
 use Rattle.trace.specs.Coverage.{holesAnswer, coverAnswer, repliesAnswer}
-use Rattle.trace.specs.Acceptance.{Whole, recordsAnswer, acceptAnswer}
+use Rattle.trace.specs.Acceptance.{Parsed, recordsAnswer, acceptAnswer}
 use Rattle.trace.specs.declared.Layout.{Layout}
 use Rattle.trace.proofs.Answers.{unless, where-true, answered}
 use Rattle.trace.proofs.Layouts.{laid}
-use Rattle.fillings.specs.Fillings.{Pack, SoundPack}
+use Rattle.fillings.specs.Fillings.{Config, SoundConfig}
 use Rattle.fillings.proofs.Bools.{is-true}
 use Rattle.ticks.specs.Traces.{traceOf, Accepted}
 use Rattle.ticks.proofs.Tests.{and-true}
 
 -- Each check of an accepted trace.
-pub record Checks (s : List ℕ) (report verdicts : ℕ) (w : Whole) : Type 0 where
+pub record Checks (s : List ℕ) (report verdicts : ℕ) (w : Parsed) : Type 0 where
   pub long : report ≡ 187
   pub walked : walkAnswer s ≡ answer (w .layout)
   pub counted : verdicts ≡ w .layout .«reply_count»
-  pub rules : L.rulesAnswer (w .layout .cells) (rulesPart s) ≡ answer tt
+  pub rules : L.ruleSetAnswer (w .layout .cells) (rulesPart s) ≡ answer tt
   pub records : recordsAnswer s (w .layout) ≡ answer (w .ticks)
   pub settings : w .settings ≡ settingsOf (rulesPart s)
 
-pub checks : (s : List ℕ) (report verdicts : ℕ) (w : Whole) → acceptAnswer s report verdicts ≡ answer w → Checks s report verdicts w
+pub checks : (s : List ℕ) (report verdicts : ℕ) (w : Parsed) → acceptAnswer s report verdicts ≡ answer w → Checks s report verdicts w
 unfolding acceptAnswer
 checks s report verdicts w h =
     let a = where-true (eqb report 187) 12 0 _ h in
     answered (walkAnswer s) _ _ (a .1) (λ l b h₁.
     let c = where-true (eqb verdicts (l .«reply_count»)) 13 0 _ h₁ in
-    answered (L.rulesAnswer (l .cells) (rulesPart s)) _ _ (c .1) (λ u d h₂.
+    answered (L.ruleSetAnswer (l .cells) (rulesPart s)) _ _ (c .1) (λ u d h₂.
     answered (recordsAnswer s l) _ _ h₂ (λ t f h₃.
     let j : record { layout = l; settings = settingsOf (rulesPart s); ticks = t } ≡ w = cc in
     rw (← j) (record { long = eqb-true report 187 (a .0); walked = b; counted = eqb-true verdicts (l .«reply_count») (c .0); rules = d; records = f; settings = refl }))))
 
-pub inverted : (s : List ℕ) (report verdicts : ℕ) (w : Whole) → acceptAnswer s report verdicts ≡ answer w
+pub inverted : (s : List ℕ) (report verdicts : ℕ) (w : Parsed) → acceptAnswer s report verdicts ≡ answer w
     → (report ≡ 187) × (walkAnswer s ≡ answer (w .layout)) × (verdicts ≡ w .layout .«reply_count») × (w .settings ≡ settingsOf (rulesPart s))
 inverted s report verdicts w h =
     let c = checks s report verdicts w h in
@@ -75,8 +75,8 @@ idle-small s l h =
     rw (← j) (head-idle s a))))))
 
 -- The rules of an accepted rule set.
-rules-sound : (n idle : ℕ) (bytes : List ℕ) → L.rulesAnswer n bytes ≡ answer tt → idle ≤ 32766 → SoundPack (record { cells = n; idle = idle; settings = settingsOf bytes })
-unfolding L.rulesAnswer
+rules-sound : (n idle : ℕ) (bytes : List ℕ) → L.ruleSetAnswer n bytes ≡ answer tt → idle ≤ 32766 → SoundConfig (record { cells = n; idle = idle; settings = settingsOf bytes })
+unfolding L.ruleSetAnswer
 rules-sound n idle bytes h k i l =
     let a = where-true (leb 3 n && leb n 12) 3 0 _ h in
     let b = and-true (leb 3 n) (leb n 12) (a .0) in
@@ -99,7 +99,7 @@ records-are hs xs rs m h =
     let e : t ≡ m = cc in
     (a, rw e at b, rw e at c))))
 
-pub accepted : (s : List ℕ) (report verdicts : ℕ) (w : Whole) → acceptAnswer s report verdicts ≡ answer w → Accepted (traceOf s w)
+pub accepted : (s : List ℕ) (report verdicts : ℕ) (w : Parsed) → acceptAnswer s report verdicts ≡ answer w → Accepted (traceOf s w)
 accepted s report verdicts w h =
     let c = checks s report verdicts w h in
     let e = c .settings in
@@ -112,7 +112,7 @@ accepted s report verdicts w h =
       replies = replies;
     }
 
-pub short-times : (p : Pack) → SoundPack p → length (p .settings) ≤ 16 → (i : ℕ) → getD (p .settings) i off .time ≤ 255
+pub short-times : (p : Config) → SoundConfig p → length (p .settings) ≤ 16 → (i : ℕ) → getD (p .settings) i off .time ≤ 255
 short-times p sound h i = go (ltb i 16) refl
   where
     go : (b : Bool) → ltb i 16 ≡ b → getD (p .settings) i off .time ≤ 255

@@ -25,7 +25,7 @@ cutSamples t (x ∷ xs) = cond (leb (x .tick) t) (x ∷ cutSamples t xs) (cutSam
 abbrev pub cutAt : Trace → ℕ → Trace
 cutAt tr t =
     record {
-      pack = tr .pack;
+      config = tr .config;
       holes = cutHoles t (tr .holes);
       replies = cutReplies t (tr .replies);
       samples = cutSamples t (tr .samples);

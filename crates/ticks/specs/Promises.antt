@@ -7,7 +7,7 @@ use lib.IntN.{ℤ}
 use lib.Dec.{T}
 use Rattle.refusals.specs.Refusals.{answer}
 use Rattle.trace.specs.Records.{Hole, Stamped}
-use Rattle.trace.specs.Acceptance.{Whole, acceptAnswer}
+use Rattle.trace.specs.Acceptance.{Parsed, acceptAnswer}
 use Rattle.fillings.specs.Charge.{inward, outward, chargeIn, chargeOut, unseenTicks}
 use Rattle.ticks.specs.Traces.{Trace, traceOf, shown, hasSample, inHole, Accepted}
 use Rattle.ticks.specs.Cut.{cutAt}
@@ -35,7 +35,7 @@ pub record CoveredOnce (tr : Trace) : Type 0 where
 -- A missing second before the last record is refused unless declared: a trace with a record at a later tick u and neither sample nor hole at t is not accepted.
 abbrev pub MissingSecond : Type 0
 MissingSecond =
-    (s : List ℕ) (report verdicts : ℕ) (w : Whole) (t u : ℕ) → t < u
+    (s : List ℕ) (report verdicts : ℕ) (w : Parsed) (t u : ℕ) → t < u
     → T (hasSample (traceOf s w .samples) u || inHole (traceOf s w .holes) u)
     → hasSample (traceOf s w .samples) t ≡ false → inHole (traceOf s w .holes) t ≡ false
     → ¬ (acceptAnswer s report verdicts ≡ answer w)

@@ -9,22 +9,22 @@ use Rattle.refusals.specs.Refusals.{answer}
 use Rattle.trace.specs.Records.{Hole, Reply, Stamped, holesIn, repliesIn, samplesIn}
 use Rattle.trace.specs.Sections.{holesPart, repliesPart, samplesPart}
 use Rattle.trace.specs.Coverage.{holesAnswer, coverAnswer, repliesAnswer}
-use Rattle.trace.specs.Acceptance.{Whole}
-use Rattle.fillings.specs.Fillings.{Pack, SoundPack, Shown, seen, unseen}
+use Rattle.trace.specs.Acceptance.{Parsed}
+use Rattle.fillings.specs.Fillings.{Config, SoundConfig, Shown, seen, unseen}
 
 -- A trace once its bytes are taken apart: head and rules, holes, replies, samples, and how many ticks it covers.
 pub record Trace : Type 0 where
-  pub pack : Pack
+  pub config : Config
   pub holes : List Hole
   pub replies : List Reply
   pub samples : List Stamped
   pub ticks : ℕ
 
 -- The trace of accepted bytes.
-abbrev pub traceOf : List ℕ → Whole → Trace
+abbrev pub traceOf : List ℕ → Parsed → Trace
 traceOf s w =
     record {
-      pack = record { cells = w .layout .cells; idle = w .layout .idle; settings = w .settings };
+      config = record { cells = w .layout .cells; idle = w .layout .idle; settings = w .settings };
       holes = holesIn (holesPart s (w .layout));
       replies = repliesIn (repliesPart s (w .layout));
       samples = samplesIn (w .layout .cells) (samplesPart s (w .layout));
@@ -52,7 +52,7 @@ inHole (h ∷ hs) t = leb (h .first) t && leb t (h .last) || inHole hs t
 
 -- What the checks ensure of a trace (refusals 3, 4, 7, 8, 9 and 10).
 pub record Accepted (tr : Trace) : Type 0 where
-  pub rules : SoundPack (tr .pack)
+  pub rules : SoundConfig (tr .config)
   pub holes : holesAnswer (tr .holes) 0 0 ≡ answer tt
   pub covered : coverAnswer (length (tr .holes) + length (tr .samples)) (tr .holes) (tr .samples) 0 ≡ answer (tr .ticks)
   pub replies : repliesAnswer (tr .ticks) (tr .replies) 0 0 ≡ answer tt

@@ -5,16 +5,16 @@ use mathlib.Core.List.{List}
 use borrow.Author.Tests.{eq-eqb, ne-eqb}
 use Rattle.refusals.specs.declared.Refusal.{Refusal}
 use Rattle.refusals.specs.Refusals.{Answer, answer, refused, refusal}
-use Rattle.limits.specs.Limits.{rulesAnswer, settingsOf}
+use Rattle.limits.specs.Limits.{ruleSetAnswer, settingsOf}
 use Rattle.trace.specs.Sections.{walkAnswer, rulesPart}
 use Rattle.trace.specs.declared.Acceptance.{Acceptance}
-use Rattle.trace.specs.declared.Accepted.the-variants.{Unaccepted}
+use Rattle.trace.specs.declared.Accepted.the-variants.{Refused}
 use Rattle.trace.specs.declared.Layout.{Layout}
-use Rattle.trace.specs.Acceptance.{Whole, recordsAnswer, acceptAnswer, answerOfAccept, ticksOf, layoutOf, settingsIn}
+use Rattle.trace.specs.Acceptance.{Parsed, recordsAnswer, acceptAnswer, answerOfAccept, ticksOf, layoutOf, settingsIn}
 
 -- A refused trace.
-pub refuses : {r : Acceptance} {why : Refusal} {a : Answer Whole}
-    → (r .answer ≡ Unaccepted why) × (r .layout ≡ layoutOf (refused 0 0)) × (r .settings .of ≡ settingsIn (refused 0 0)) → a ≡ refusal why
+pub refuses : {r : Acceptance} {why : Refusal} {a : Answer Parsed}
+    → (r .answer ≡ Refused why) × (r .layout ≡ layoutOf (refused 0 0)) × (r .settings .of ≡ settingsIn (refused 0 0)) → a ≡ refusal why
     → (answerOfAccept (r .answer) ≡ ticksOf a) × ((r .layout ≡ layoutOf a) × (r .settings .of ≡ settingsIn a))
 refuses (e, f, g) h = (rw (e, h), (rw (f, h), rw (g, h)))
 
@@ -32,11 +32,11 @@ module _ (s : List ℕ) {l : Layout} {verdicts : ℕ} (w : walkAnswer s ≡ answ
   no-verdicts h = rw (w, ne-eqb verdicts (l .«reply_count») h)
 
   module _ (v : verdicts ≡ l .«reply_count») where
-    pub no-rules : {n p : ℕ} → rulesAnswer (l .cells) (rulesPart s) ≡ refused n p → acceptAnswer s 187 verdicts ≡ refused n p
+    pub no-rules : {n p : ℕ} → ruleSetAnswer (l .cells) (rulesPart s) ≡ refused n p → acceptAnswer s 187 verdicts ≡ refused n p
     unfolding acceptAnswer
     no-rules h = rw (w, eq-eqb verdicts (l .«reply_count») v, h)
 
-    module _ {u : Unit {0}} (limits : rulesAnswer (l .cells) (rulesPart s) ≡ answer u) where
+    module _ {u : Unit {0}} (limits : ruleSetAnswer (l .cells) (rulesPart s) ≡ answer u) where
       pub no-records : {n p : ℕ} → recordsAnswer s l ≡ refused n p → acceptAnswer s 187 verdicts ≡ refused n p
       unfolding acceptAnswer
       no-records h = rw (w, eq-eqb verdicts (l .«reply_count») v, limits, h)

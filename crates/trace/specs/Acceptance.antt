@@ -13,7 +13,7 @@ use Rattle.trace.specs.Sections.{andThen, walkAnswer, rulesPart, holesPa
 use Rattle.trace.specs.Coverage.{holesAnswer, coverAnswer, repliesAnswer}
 use Rattle.trace.specs.declared.Layout.{Layout}
 use Rattle.trace.specs.declared.Accepted.{Accepted}
-use Rattle.trace.specs.declared.Accepted.the-variants.{Covered, Unaccepted}
+use Rattle.trace.specs.declared.Accepted.the-variants.{Covered, Refused}
 
 -- Refusals 8, 9 and 10 of a trace whose sections are whole: the ticks that it covers.
 abbrev pub recordsAnswer : List ℕ → Layout → Answer ℕ
@@ -24,18 +24,18 @@ recordsAnswer s l =
     answer ticks)))
 
 -- What an accepted trace hands on.
-pub record Whole : Type 0 where
+pub record Parsed : Type 0 where
   pub layout : Layout
   pub settings : List Setting
   pub ticks : ℕ
 
 -- The acceptance of a trace, with the lengths of the lent report and verdict buffer.
-unfoldable pub acceptAnswer : List ℕ → ℕ → ℕ → Answer Whole
+unfoldable pub acceptAnswer : List ℕ → ℕ → ℕ → Answer Parsed
 acceptAnswer s report verdicts =
     cond (eqb report 187)
     (andThen (walkAnswer s) (λ l.
     cond (eqb verdicts (l .«reply_count»))
-    (andThen (limits.rulesAnswer (l .cells) (rulesPart s)) (λ rules.
+    (andThen (limits.ruleSetAnswer (l .cells) (rulesPart s)) (λ rules.
     andThen (recordsAnswer s l) (λ ticks.
     answer (record { layout = l; settings = settingsOf (rulesPart s); ticks = ticks }))))
     (refused 13 0)))
@@ -44,20 +44,20 @@ acceptAnswer s report verdicts =
 -- What `accept` answers, in the paper's numbers: the ticks, or a refusal.
 abbrev pub answerOfAccept : Accepted → Answer ℕ
 answerOfAccept (Covered ticks) = answer ticks
-answerOfAccept (Unaccepted why) = refusal why
+answerOfAccept (Refused why) = refusal why
 
 -- The ticks of an acceptance.
-abbrev pub ticksOf : Answer Whole → Answer ℕ
+abbrev pub ticksOf : Answer Parsed → Answer ℕ
 ticksOf (answer w) = answer (w .ticks)
 ticksOf (refused number place) = refused number place
 
 -- The layout that is handed on: all zeros where the trace is refused.
-abbrev pub layoutOf : Answer Whole → Layout
+abbrev pub layoutOf : Answer Parsed → Layout
 layoutOf (answer w) = w .layout
 layoutOf (refused number place) =
     record { cells = 0; idle = 0; holes = 0; «holes_end» = 0; replies = 0; «replies_end» = 0; «reply_count» = 0; samples = 0 }
 
 -- The settings that are handed on: all off where the trace is refused.
-abbrev pub settingsIn : Answer Whole → List Setting
+abbrev pub settingsIn : Answer Parsed → List Setting
 settingsIn (answer w) = w .settings
 settingsIn (refused number place) = tabulateFrom 0 16 (λ i. off)

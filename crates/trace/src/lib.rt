@@ -40,31 +40,31 @@ pub struct Layout {
 
 pub enum Walk {
     Whole(Layout),
-    Broken(Refusal),
+    Refused(Refusal),
 }
 
 // The sections of a trace, or the first refusal among 1 to 6 and 11. The reply count is that of the verdict buffer.
 pub fn walk_sections(s: &[u8]) -> Walk
     ensures { λ r. ⌜ answerOfWalk r ≡ walkAnswer (now (s .entry)) ⌝ }
 {
-    if let Checked::Failed(why) = check_head(s) {
-        return Walk::Broken(why);
+    if let Checked::Refused(why) = check_head(s) {
+        return Walk::Refused(why);
     }
-    if let Checked::Failed(why) = check_rule_count(s) {
-        return Walk::Broken(why);
+    if let Checked::Refused(why) = check_rule_count(s) {
+        return Walk::Refused(why);
     }
     let Sectioned::At(holes) = read_section(s, 166, 8) else {
-        return Walk::Broken(Refusal::PastEnd);
+        return Walk::Refused(Refusal::PastEnd);
     };
     let Sectioned::At(replies) = read_section(s, holes.end, 10) else {
-        return Walk::Broken(Refusal::PastEnd);
+        return Walk::Refused(Refusal::PastEnd);
     };
     let cells = s[1];
     let Sectioned::At(samples) = read_section(s, replies.end, sample_width(cells)) else {
-        return Walk::Broken(Refusal::PastEnd);
+        return Walk::Refused(Refusal::PastEnd);
     };
     if samples.end != s.len() {
-        return Walk::Broken(Refusal::LeftOver);
+        return Walk::Refused(Refusal::LeftOver);
     }
     Walk::Whole(Layout {
         cells,
@@ -83,14 +83,14 @@ pub fn reply_count(s: &[u8]) -> usize
     ensures { λ n. ⌜ n ≡ replyCount (walkAnswer (now (s .entry))) ⌝ }
 {
     match walk_sections(s) {
-        Walk::Broken(why) => 0,
+        Walk::Refused(why) => 0,
         Walk::Whole(l) => l.reply_count,
     }
 }
 
 pub enum Accepted {
     Covered(u32),
-    Unaccepted(Refusal),
+    Refused(Refusal),
 }
 
 // An acceptance: the ticks that the trace covers, its layout and its settings.
@@ -111,7 +111,7 @@ pub fn accept(s: &[u8], report: usize, verdicts: usize) -> Acceptance
         return refuse(Refusal::ReportLength);
     }
     match walk_sections(s) {
-        Walk::Broken(why) => refuse(why),
+        Walk::Refused(why) => refuse(why),
         Walk::Whole(l) => accept_layout(s, l, verdicts),
     }
 }

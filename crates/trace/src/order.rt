@@ -23,10 +23,10 @@ use rules::Settings;
 
 // A refused trace, with no layout and every rule switched off.
 pub(crate) fn refuse(why: Refusal) -> Acceptance
-    ensures { λ r. ⌜ (r .answer ≡ Accepted.Unaccepted why) × (r .layout ≡ layoutOf (refused 0 0)) × (r .settings .of ≡ settingsIn (refused 0 0)) ⌝ }
+    ensures { λ r. ⌜ (r .answer ≡ Accepted.Refused why) × (r .layout ≡ layoutOf (refused 0 0)) × (r .settings .of ≡ settingsIn (refused 0 0)) ⌝ }
 {
     Acceptance {
-        answer: Accepted::Unaccepted(why),
+        answer: Accepted::Refused(why),
         layout: Layout {
             cells: 0,
             idle: 0,
@@ -52,7 +52,7 @@ fn accept_replies(replies: &[u8], ticks: u64) -> Accepted
     ensures { λ r. ⌜ answerOfAccept r ≡ andThen (repliesAnswer ticks (repliesIn (now (replies .entry))) 0 0) (λ done. answer ticks) ⌝ }
 {
     match check_replies(replies, ticks) {
-        Checked::Failed(why) => Accepted::Unaccepted(why),
+        Checked::Refused(why) => Accepted::Refused(why),
         Checked::Passed => Accepted::Covered(ticks as u32),
     }
 }
@@ -65,8 +65,8 @@ fn accept_records(s: &[u8], l: Layout) -> Accepted
     let a = l.holes;
     let b = l.holes_end;
     let holes = &s[a..b];
-    if let Checked::Failed(why) = check_holes(holes) {
-        return Accepted::Unaccepted(why);
+    if let Checked::Refused(why) = check_holes(holes) {
+        return Accepted::Refused(why);
     }
     let d = l.samples;
     let samples = &s[d..];
@@ -74,7 +74,7 @@ fn accept_records(s: &[u8], l: Layout) -> Accepted
     let q = l.replies_end;
     let replies = &s[p..q];
     match cover_ticks(holes, samples, l.cells) {
-        Cover::Gap(tick) => Accepted::Unaccepted(Refusal::Coverage { tick: tick as u32 }),
+        Cover::Gap(tick) => Accepted::Refused(Refusal::Coverage { tick: tick as u32 }),
         Cover::Ticks(ticks) => accept_replies(replies, ticks),
     }
 }
@@ -91,11 +91,11 @@ pub(crate) fn accept_layout(s: &[u8], l: Layout, verdicts: usize) -> Acceptance
     }
     let checked = check_rules(l.cells, &s[6..166]);
     let limited = checked.answer;
-    if let Limited::Outside(why) = limited {
+    if let Limited::Refused(why) = limited {
         return refuse(why);
     }
     match accept_records(s, l) {
-        Accepted::Unaccepted(why) => refuse(why),
+        Accepted::Refused(why) => refuse(why),
         Accepted::Covered(ticks) => {
             let settings = checked.settings;
             Acceptance {

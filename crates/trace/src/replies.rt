@@ -31,7 +31,7 @@ pub(crate) fn check_replies(replies: &[u8], ticks: u64) -> Checked
     while i < count {
         let tick = tick_at(replies, i * 10);
         if reply_bad(low, ticks, tick) {
-            return Checked::Failed(Refusal::ReplyTick { reply: i as u32 });
+            return Checked::Refused(Refusal::ReplyTick { reply: i as u32 });
         }
         low = tick;
         i += 1;

@@ -20,11 +20,11 @@ no-answer : (n m p : ℕ) → _≡_ {A = Answer ℕ} (answer n) (refused m p) �
 no-answer n m p e = let z : _≡_ {A = ℕ} 0 1 = cc in omega arith
 
 module _ (s : List ℕ) (n : ℕ) (e : answer n ≡ reply.checkAnswer s) where
-  checked : (b : Bool) → eqb (length s) 6 ≡ b → _≡_ {A = Answer ℕ} (answer n) (cond b (answer (reply.verdictOf s)) (refused 15 0)) → (length s ≡ 6) × (reply.verdictOf s ≡ n)
-  checked true d g = (eqb-true (length s) 6 d, sym (same-answer n (reply.verdictOf s) g))
+  checked : (b : Bool) → eqb (length s) 6 ≡ b → _≡_ {A = Answer ℕ} (answer n) (cond b (answer (reply.checkVerdict s)) (refused 15 0)) → (length s ≡ 6) × (reply.checkVerdict s ≡ n)
+  checked true d g = (eqb-true (length s) 6 d, sym (same-answer n (reply.checkVerdict s) g))
   checked false d g = absurd (no-answer n 15 0 g)
 
-  pub checked-six : (length s ≡ 6) × (reply.verdictOf s ≡ n)
+  pub checked-six : (length s ≡ 6) × (reply.checkVerdict s ≡ n)
   checked-six = checked (eqb (length s) 6) refl e
 
 -- A wrong address or code.
@@ -51,6 +51,6 @@ pub refused-verdict : (tick : Tick) (a : Alarms) (s : List ℕ) (n p : ℕ) → 
 unfolding verdictAnswer
 refused-verdict tick a s n p e = go (eqb (length s) 6) e
   where
-    go : (b : Bool) → _≡_ {A = Answer ℕ} (refused n p) (cond b (answer (reply.verdictOf s)) (refused 15 0)) → refused n p ≡ cond b (answer (verdictOf tick a s)) (refused 15 0)
-    go true g = absurd (no-answer (reply.verdictOf s) n p (sym g))
+    go : (b : Bool) → _≡_ {A = Answer ℕ} (refused n p) (cond b (answer (reply.checkVerdict s)) (refused 15 0)) → refused n p ≡ cond b (answer (verdictOf tick a s)) (refused 15 0)
+    go true g = absurd (no-answer (reply.checkVerdict s) n p (sym g))
     go false g = g

@@ -16,7 +16,7 @@ use Rattle.verdicts.specs.declared.Tick.{Tick}
 use Rattle.verdicts.specs.declared.Tick.the-variants.{Seen, Unseen}
 use Rattle.verdicts.specs.declared.Alarms.{Alarms}
 use Rattle.verdicts.specs.declared.Verdict.{Verdict}
-use Rattle.verdicts.specs.declared.Verdict.the-variants.{WrongAddress, WrongCode, OtherCommand, Agrees, Differs, CannotTell, Unjudged}
+use Rattle.verdicts.specs.declared.Verdict.the-variants.{WrongAddress, WrongCode, OtherCommand, Agrees, Differs, CannotTell, Refused}
 
 -- What the verdict call answers, in the paper's numbers.
 abbrev pub answerOfVerdict : Verdict → Answer ℕ
@@ -26,7 +26,7 @@ answerOfVerdict OtherCommand = answer 3
 answerOfVerdict Agrees = answer 4
 answerOfVerdict Differs = answer 5
 answerOfVerdict CannotTell = answer 6
-answerOfVerdict (Unjudged why) = refusal why
+answerOfVerdict (Refused why) = refusal why
 
 -- The word of a reply: low byte, high byte.
 abbrev pub wordOf : List ℕ → ℕ
@@ -83,7 +83,7 @@ commandVerdict tick a command word =
 -- The verdict on six bytes: 1 and 2 come first.
 abbrev pub verdictOf : Tick → Alarms → List ℕ → ℕ
 verdictOf tick a bytes =
-    cond (eqb (reply.verdictOf bytes) 0) (commandVerdict tick a (getD bytes 1 0) (wordOf bytes)) (reply.verdictOf bytes)
+    cond (eqb (reply.checkVerdict bytes) 0) (commandVerdict tick a (getD bytes 1 0) (wordOf bytes)) (reply.checkVerdict bytes)
 
 -- The verdict on a reply, or refusal 15 for one that is not six bytes long.
 unfoldable pub verdictAnswer : Tick → Alarms → List ℕ → Answer ℕ

@@ -33,7 +33,7 @@ pub enum Verdict {
     Agrees,
     Differs,
     CannotTell,
-    Unjudged(Refusal),
+    Refused(Refusal),
 }
 
 fn join(low: u8, high: u8) -> u16
@@ -200,10 +200,10 @@ pub fn judge_reply(tick: Tick, a: Alarms, reply: &[u8]) -> Verdict
     ensures { λ v. ⌜ answerOfVerdict v ≡ verdictAnswer tick a (now (reply .entry)) ⌝ }
 {
     match pec::check(reply) {
-        Checked::Unchecked(why) => Verdict::Unjudged(why),
+        Checked::Refused(why) => Verdict::Refused(why),
         Checked::WrongAddress => Verdict::WrongAddress,
         Checked::WrongCode => Verdict::WrongCode,
-        Checked::Whole => judge_whole(tick, a, reply),
+        Checked::Intact => judge_whole(tick, a, reply),
     }
 }
 

@@ -3,18 +3,18 @@ use mathlib.Core.Path.{sym, ap, _∙_}
 use native.Mathlib.Omega.{arith}
 use lib.ListN.{length, length-set}
 use borrow.Author.Needs.{needs}
-use Rattle.judge.specs.Walk.{packIn}
+use Rattle.judge.specs.Walk.{configIn}
 use Rattle.judge.proofs.Knowing.{long, sixteen, sixteen-held}
 use Rattle.judge.proofs.Judging.{Judging, judging-start, next-reply, in-replies, six-bytes, judging-next, not-past, judging-end, known-there}
 use Rattle.judge.proofs.replies.judge_replies.Statement.{statement}
 use Rattle.judge.proofs.replies.judge_replies.Tie as tie
 
 abbrev Inv-loop : tie.InvT-loop
-Inv-loop holes samples replies pack ticks words₀ possible₀ held₀ verdicts₀ x₀ j₀ words possible held verdicts x j =
-    Judging (packIn pack) holes samples replies ticks words possible held verdicts x j
+Inv-loop holes samples replies config ticks words₀ possible₀ held₀ verdicts₀ x₀ j₀ words possible held verdicts x j =
+    Judging (configIn config) holes samples replies ticks words possible held verdicts x j
 
 abbrev μ-loop : tie.MeasureT-loop
-μ-loop holes samples replies pack ticks words₀ possible₀ held₀ verdicts₀ x₀ j₀ words possible held verdicts x j =
+μ-loop holes samples replies config ticks words₀ possible₀ held₀ verdicts₀ x₀ j₀ words possible held verdicts x j =
     length verdicts - j
 
 loop-holds : tie.Need-loop-holds Inv-loop μ-loop
