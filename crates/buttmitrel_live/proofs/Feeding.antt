@@ -7,7 +7,7 @@ use native.Mathlib.Omega.{arith}
 use lib.Dec.{eqb}
 use lib.ListN.{length}
 use borrow.Author.Tests.{eq-eqb, ne-eqb}
-use Rattle.refusals.specs.Refusals.{Answer, answer, refused}
+use Rattle.refusals.specs.Refusals.{Answer, answer, refused, orKept}
 use Rattle.rules.specs.declared.Setting.{Setting}
 use Rattle.flags.specs.declared.RuleFlags.{RuleFlags}
 use Rattle.report.specs.declared.FirstTicks.{FirstTicks}
@@ -17,7 +17,7 @@ use Rattle.fillings.specs.PossibleStates.{tabulate}
 use Rattle.states.specs.Records.{fresh}
 use Rattle.live.specs.declared.Live.{Live}
 use Rattle.live.specs.State.{good, begun}
-use Rattle.live.specs.Calls.{orKept, ofGood, flagsRead}
+use Rattle.live.specs.Calls.{ofGood, flagsRead}
 use Rattle.buttmitrel.specs.Code.{codeOf, refusalCode}
 use Rattle.buttmitrel_live.specs.Live.{isKept, ofKept, listAfter, totalsList, begunAnswer, reportedAnswer, stateReport}
 
@@ -47,7 +47,7 @@ module _ (words totals : List ℕ) where
 
   -- a beginning
   pub begins : (n idle : ℕ) (ss oo : List Setting) (a : Answer (Unit {0})) {f : Answer (Unit {0})} {st : Live} {k : ℕ} {w t : List ℕ}
-      → f ≡ a → st ≡ orKept a (begun n idle ss) (begun 3 0 oo) → After k w t (begunAnswer f words totals) words (st .states .words) totals (totalsList (st .totals))
+      → f ≡ a → st ≡ orKept a (λ taken. begun n idle ss) (begun 3 0 oo) → After k w t (begunAnswer f words totals) words (st .states .words) totals (totalsList (st .totals))
       → After k w t (begunAnswer a words totals) words fresh totals (0 ∷ 0 ∷ 0 ∷ 0 ∷ [])
   begins n idle ss oo (answer tt) e s h = rw (e, s) at h
   begins n idle ss oo (refused number place) e s h = rw e at h
@@ -55,17 +55,17 @@ module _ (words totals : List ℕ) where
   -- a call of a state that was loaded
   fed : (rules : List ℕ) (new old : Live) (a : Answer (Unit {0})) {f : Answer (Unit {0})} {st : Live} {k : ℕ} {w t : List ℕ}
       → isKept rules totals ≡ true → length words ≡ 80 → length totals ≡ 4
-      → f ≡ a → st ≡ orKept a new old → After k w t (begunAnswer f words totals) words (st .states .words) totals (totalsList (st .totals))
+      → f ≡ a → st ≡ orKept a (λ taken. new) old → After k w t (begunAnswer f words totals) words (st .states .words) totals (totalsList (st .totals))
       → After k w t (ofKept rules totals a) words (new .states .words) totals (totalsList (new .totals))
   fed rules new old (answer tt) i l m e s h = rw i (rw (e, s, lists-fit l m) at h)
   fed rules new old (refused number place) i l m e s h = rw i (rw e at h)
 
   pub feeds : (rules : List ℕ) (answers : Live → Answer (Unit {0})) (next : Live → Live) (s : Live) {o : Live} {f : Answer (Unit {0})} {st : Live} {k : ℕ} {w t : List ℕ}
       → (isKept rules totals ≡ true) × (length words ≡ 80) × (length totals ≡ 4) × (o ≡ s)
-      → f ≡ answers o → st ≡ orKept (answers o) (next o) o → After k w t (begunAnswer f words totals) words (st .states .words) totals (totalsList (st .totals))
+      → f ≡ answers o → st ≡ orKept (answers o) (λ taken. next o) o → After k w t (begunAnswer f words totals) words (st .states .words) totals (totalsList (st .totals))
       → After k w t (ofKept rules totals (answers s)) words (next s .states .words) totals (totalsList (next s .totals))
   feeds rules answers next s (i, l, m, q) e g h =
-      fed rules (next s) s (answers s) i l m (e ∙ ap answers q) (g ∙ ap (λ (y : Live). orKept (answers y) (next y) y) q) h
+      fed rules (next s) s (answers s) i l m (e ∙ ap answers q) (g ∙ ap (λ (y : Live). orKept (answers y) (λ taken. next y) y) q) h
 
 -- A state that was not loaded is refusal 16.
 pub no-state : {A : Type 0} (rules totals : List ℕ) (s : Live) (a : Answer A) → (isKept rules totals && good s) ≡ false → (good s ≡ false → a ≡ refused 16 0) → ofKept rules totals a ≡ refused 16 0

@@ -10,7 +10,7 @@ use lib.Seq.{getD-set-same, getD-set-other, ext-getD}
 use borrow.Author.Tests.{eq-eqb, ne-eqb, eqb-true, le-leb, lt-leb, leb-true}
 use borrow.Author.Count.{below-more}
 use Rattle.refusals.specs.declared.Refusal.{Refusal}
-use Rattle.refusals.specs.Refusals.{answer, refused}
+use Rattle.refusals.specs.Refusals.{answer, refused, passes}
 use Rattle.rules.specs.Table.{rows}
 use Rattle.limits.specs.Limits.{limitsAnswer, settingsOf}
 use Rattle.ticks.proofs.Tests.{and-true}
@@ -21,7 +21,7 @@ use Rattle.states.specs.Steps.{settingOf}
 use Rattle.live.specs.declared.Live.{Live}
 use Rattle.live.specs.declared.Step.{Step}
 use Rattle.live.specs.declared.Fed.the-variants.{Taken, Refused}
-use Rattle.live.specs.State.{passes, good, begun}
+use Rattle.live.specs.State.{good, begun}
 use Rattle.live.specs.Calls.{beginAnswer, beginState}
 use Rattle.live.proofs.GoodStates.{parts}
 use Rattle.buttmitrel_live.specs.Live.{stateOf, isKept}

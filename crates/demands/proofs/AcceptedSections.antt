@@ -11,7 +11,7 @@ use Rattle.bytes_le.specs.Numbers.{u16At}
 use Rattle.trace.specs.Records.{sampleWidth, holesIn, repliesIn, samplesIn}
 use Rattle.trace.specs.Sections.{headAnswer, rulesAnswer, sectionAnswer, walkAnswer, holesPart, repliesPart, samplesPart}
 use Rattle.trace.specs.declared.Layout.{Layout}
-use Rattle.trace.proofs.Answers.{where-true, answered}
+use Rattle.refusals.proofs.Answers.{where-true, answered}
 use Rattle.trace.proofs.Layouts.{laid, parts-are, length-part, few-holes, few-replies}
 use Rattle.ticks.proofs.Tests.{by-order}
 use Rattle.demands.specs.CutBytes.{Bytes}

@@ -58,7 +58,7 @@ cutWhole s w t =
       ticks = suc t;
     }
 
-module _ (s : List ℕ) (bytes : Bytes s) {report verdicts : ℕ} (w : Parsed) (passed : Checks s report verdicts w) (ok : Accepted (traceOf s w)) (t : ℕ) where
+module _ (s : List ℕ) (bytes : Bytes s) (w : Parsed) (passed : Checks s w) (ok : Accepted (traceOf s w)) (t : ℕ) where
   sections : Walked s (w .layout)
   sections = walked s (w .layout) (passed .walked)
 
@@ -134,15 +134,15 @@ module _ (s : List ℕ) (bytes : Bytes s) {report verdicts : ℕ} (w : Parsed) (
   same-rules = ap₂ L.ruleSetAnswer same-cells (starts .rules) ∙ passed .rules
 
   cut-read : Accepted (cut s w t)
-      → (acceptAnswer (cutBytes s w t) 187 (length (cut s w t .replies)) ≡ answer (cutWhole s w t))
+      → (acceptAnswer (cutBytes s w t) ≡ answer (cutWhole s w t))
       × (traceOf (cutBytes s w t) (cutWhole s w t) ≡ cut s w t)
   cut-read good =
       let same : traceOf (cutBytes s w t) (cutWhole s w t) ≡ cut s w t = same-trace (suc t) same-config (same-holes good) same-replies same-samples in
       let records = records-accepted (cutBytes s w t) (cutWhole s w t) (subst Accepted (sym same) good) in
-      (outcomes.accepted (cutBytes s w t) (reads .walk) refl same-rules records, same)
+      (outcomes.accepted (cutBytes s w t) (reads .walk) same-rules records, same)
 
 pub cut-bytes : CutBytes
-cut-bytes s bytes report verdicts w e t covered =
-    let ok = accepted s report verdicts w e in
-    let (a, b) = cut-read s bytes w (checks s report verdicts w e) ok t (cut-holds (traceOf s w) ok .accepted t covered) in
+cut-bytes s bytes w e t covered =
+    let ok = accepted s w e in
+    let (a, b) = cut-read s bytes w (checks s w e) ok t (cut-holds (traceOf s w) ok .accepted t covered) in
     (cutWhole s w t, a, b, still-bytes s w t bytes)

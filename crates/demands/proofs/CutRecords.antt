@@ -10,7 +10,7 @@ use borrow.Author.Tests.{ltb-false, le-leb, lt-leb}
 use Rattle.refusals.specs.Refusals.{answer}
 use Rattle.trace.specs.Records.{Hole, Reply, Stamped}
 use Rattle.trace.specs.Coverage.{repliesAnswer}
-use Rattle.trace.proofs.Answers.{unless}
+use Rattle.refusals.proofs.Answers.{unless}
 use Rattle.ticks.specs.Cut.{cutHoles, cutReplies, cutSamples}
 use Rattle.ticks.proofs.Tests.{by-order, or-false}
 use Rattle.ticks.specs.Places.{Place, done, hole, sample}

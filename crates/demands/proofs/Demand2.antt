@@ -21,7 +21,7 @@ use Rattle.verdicts.specs.Verdicts.{verdictOf}
 use Rattle.trace.specs.Records.{Reply}
 use Rattle.trace.specs.Sections.{samplesPart}
 use Rattle.trace.specs.Coverage.{repliesAnswer}
-use Rattle.trace.proofs.Answers.{unless}
+use Rattle.refusals.proofs.Answers.{unless}
 use Rattle.fillings.specs.PossibleStates.{tabulate}
 use Rattle.fillings.specs.Flags.{statusFlag}
 use Rattle.fillings.proofs.Demand3.{judged}
@@ -146,6 +146,6 @@ module _ (tr : Trace) (ok : Accepted tr) (none : tr .holes ≡ []) where
       }
 
 pub demand2 : Demand2
-demand2 s report verdicts w h =
-    let ok = accepted s report verdicts w h in
+demand2 s w h =
+    let ok = accepted s w h in
     (totals-judged (traceOf s w) ok (currents (w .layout .cells) (samplesPart s (w .layout)) _ 0), run-judged (traceOf s w) ok)

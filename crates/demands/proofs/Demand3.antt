@@ -134,4 +134,4 @@ module _ (tr : Trace) (ok : Accepted tr) where
   trace-judged = record { rules = rule-judged; outputs = outputs-judged; charge = charge-judged; end = end-judged tr ok }
 
 pub demand3 : Demand3
-demand3 s report verdicts w h = trace-judged (traceOf s w) (accepted s report verdicts w h)
+demand3 s w h = trace-judged (traceOf s w) (accepted s w h)

@@ -11,10 +11,10 @@ use Rattle.trace.specs.Acceptance.{Parsed, acceptAnswer}
 use Rattle.ticks.specs.Traces.{traceOf}
 use Rattle.demands.specs.Examples.{withoutHole, withHole}
 
-pub without-hole-accepted : (w : Parsed) × (acceptAnswer withoutHole 187 0 ≡ answer w) × (traceOf withoutHole w .holes ≡ [])
+pub without-hole-accepted : (w : Parsed) × (acceptAnswer withoutHole ≡ answer w) × (traceOf withoutHole w .holes ≡ [])
 unfolding acceptAnswer walkAnswer headAnswer rulesAnswer sectionAnswer L.ruleSetAnswer limitsAnswer limits holesAnswer coverAnswer repliesAnswer holesFrom repliesFrom samplesFrom
 without-hole-accepted = (_, refl, refl)
 
-pub with-hole-accepted : (w : Parsed) × (acceptAnswer withHole 187 0 ≡ answer w) × (traceOf withHole w .holes ≡ record { first = 0; last = 0 } ∷ [])
+pub with-hole-accepted : (w : Parsed) × (acceptAnswer withHole ≡ answer w) × (traceOf withHole w .holes ≡ record { first = 0; last = 0 } ∷ [])
 unfolding acceptAnswer walkAnswer headAnswer rulesAnswer sectionAnswer L.ruleSetAnswer limitsAnswer limits holesAnswer coverAnswer repliesAnswer holesFrom repliesFrom samplesFrom
 with-hole-accepted = (_, refl, refl)

@@ -31,8 +31,8 @@ Bytes s = (i : ℕ) → i < length s → getD s i 0 < 256
 -- They are bytes, they are accepted, and their trace is the cut trace.
 abbrev pub CutBytes : Type 0
 CutBytes =
-    (s : List ℕ) → Bytes s → (report verdicts : ℕ) (w : Parsed) → acceptAnswer s report verdicts ≡ answer w → (t : ℕ) → t < w .ticks
+    (s : List ℕ) → Bytes s → (w : Parsed) → acceptAnswer s ≡ answer w → (t : ℕ) → t < w .ticks
     → (w′ : Parsed)
-    × (acceptAnswer (cutBytes s w t) 187 (length (cutAt (traceOf s w) t .replies)) ≡ answer w′)
+    × (acceptAnswer (cutBytes s w t) ≡ answer w′)
     × (traceOf (cutBytes s w t) w′ ≡ cutAt (traceOf s w) t)
     × Bytes (cutBytes s w t)

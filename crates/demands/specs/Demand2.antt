@@ -84,5 +84,5 @@ pub record TotalsJudged (tr : Trace) : Type 0 where
 
 -- Demand 2: of all bytes that are accepted.
 abbrev pub Demand2 : Type 0
-Demand2 = (s : List ℕ) (report verdicts : ℕ) (w : Parsed) → acceptAnswer s report verdicts ≡ answer w
+Demand2 = (s : List ℕ) (w : Parsed) → acceptAnswer s ≡ answer w
     → TotalsJudged (traceOf s w) × (traceOf s w .holes ≡ [] → RunJudged (traceOf s w))

@@ -103,4 +103,4 @@ pub record TraceJudged (tr : Trace) : Type 0 where
 
 -- Demand 3: of all bytes that are accepted.
 abbrev pub Demand3 : Type 0
-Demand3 = (s : List ℕ) (report verdicts : ℕ) (w : Parsed) → acceptAnswer s report verdicts ≡ answer w → TraceJudged (traceOf s w)
+Demand3 = (s : List ℕ) (w : Parsed) → acceptAnswer s ≡ answer w → TraceJudged (traceOf s w)

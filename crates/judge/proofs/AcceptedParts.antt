@@ -14,7 +14,7 @@ use Rattle.trace.specs.declared.Layout.{Layout}
 use Rattle.trace.specs.Records.{repliesIn, sampleWidth}
 use Rattle.trace.specs.Sections.{holesPart, repliesPart, samplesPart}
 use Rattle.trace.specs.Acceptance.{Parsed, acceptAnswer, ticksOf, layoutOf, settingsIn}
-use Rattle.trace.proofs.Answers.{clash}
+use Rattle.refusals.proofs.Answers.{clash}
 use Rattle.trace.proofs.Layouts.{PartsAre, parts-are, length-part, replies-start, few-replies}
 use Rattle.trace.proofs.TickBounds.{ticks-small}
 use Rattle.flags.specs.declared.RuleFlags.{RuleFlags}

@@ -13,7 +13,7 @@ use Rattle.refusals.specs.Refusals.{answer}
 use Rattle.bytes_le.specs.Numbers.{u32At}
 use Rattle.trace.specs.Records.{Reply, repliesFrom, repliesIn}
 use Rattle.trace.specs.Coverage.{repliesAnswer}
-use Rattle.trace.proofs.Answers.{unless}
+use Rattle.refusals.proofs.Answers.{unless}
 use Rattle.trace.proofs.ReplyTurns.{reply-next}
 use Rattle.fillings.specs.Fillings.{Config}
 use Rattle.ticks.proofs.Tests.{or-false}

@@ -15,6 +15,7 @@ use mir.Facts.{toZ-ofZ}
 use borrow.Author.Tests.{leb-true, leb-false, le-leb, ne-eqb}
 use Rattle.refusals.specs.declared.Refusal.{Refusal}
 use Rattle.refusals.specs.Refusals.{Answer, answer, refused, refusal}
+use Rattle.refusals.proofs.Answers.{where-true}
 use Rattle.bytes_le.specs.Numbers.{u16At, i32At}
 use Rattle.rules.specs.declared.Side.{Side}
 use Rattle.rules.specs.declared.Side.the-variants.{High, Low}
@@ -185,18 +186,14 @@ listed-answer n m ss l =
     ap (λ (xs : List Setting). limitsAnswer n (tabulateFrom 0 m rowAt) xs 0)
     (ap (λ (k : ℕ). tabulateFrom 0 k (numbered ss)) (sym l) ∙ listed ss 0 (numbered ss) (λ j. let z : 0 + j ≡ j = omega arith in ap (numbered ss) z))
 
-passes : (b : Bool) (i : ℕ) (a : Answer (Unit {0})) → cond b a (refused 7 i) ≡ answer tt → (b ≡ true) × (a ≡ answer tt)
-passes true i a h = (refl, h)
-passes false i a h = let z : _≡_ {A = ℕ} 0 1 = cc in absurd (omega arith)
-
 -- Each rule of settings that pass is within its limits.
 pub rule-within : (n : ℕ) (rs : List Row) (ss : List Setting) (i : ℕ) → limitsAnswer n rs ss i ≡ answer tt
     → (j : ℕ) (r : Row) (s : Setting) → j < length rs → j < length ss → limits n (getD rs j r) (getD ss j s) ≡ true
 unfolding limitsAnswer
 rule-within n [] ss i h j r s a b = absurd (omega arith)
 rule-within n (r′ ∷ rs) [] i h j r s a b = absurd (omega arith)
-rule-within n (r′ ∷ rs) (s′ ∷ ss) i h zero r s a b = passes (limits n r′ s′) i _ h .0
-rule-within n (r′ ∷ rs) (s′ ∷ ss) i h (suc j) r s a b = rule-within n rs ss (suc i) (passes (limits n r′ s′) i _ h .1) j r s (omega arith) (omega arith)
+rule-within n (r′ ∷ rs) (s′ ∷ ss) i h zero r s a b = where-true (limits n r′ s′) 7 i _ h .0
+rule-within n (r′ ∷ rs) (s′ ∷ ss) i h (suc j) r s a b = rule-within n rs ss (suc i) (where-true (limits n r′ s′) 7 i _ h .1) j r s (omega arith) (omega arith)
 
 -- A refused rule set.
 pub refuses : {r : RuleSet} {why : Refusal} {a : Answer (Unit {0})} (ss : List Setting)

@@ -9,13 +9,13 @@ use lib.Dec.{T, leb, eqb}
 use lib.IntN.{ℤ}
 use lib.ListN.{length}
 use borrow.Author.Tests.{lt-ltb, le-ltb, eq-eqb}
-use Rattle.refusals.specs.Refusals.{answer, refused}
+use Rattle.refusals.specs.Refusals.{answer, refused, andThen, orKept}
 use Rattle.rules.specs.declared.Setting.{Setting}
 use Rattle.rules.specs.Samples.{Sample, Every, I16, readingsOf}
 use Rattle.rules.proofs.CellCount.{in-range}
 use Rattle.limits.specs.Limits.{off, tabulateFrom, settingsOf}
 use Rattle.trace.specs.Records.{Hole, Stamped, u16sFrom, i16sFrom, samplesFrom, sampleWidth}
-use Rattle.trace.specs.Sections.{andThen, rulesPart, samplesPart}
+use Rattle.trace.specs.Sections.{rulesPart, samplesPart}
 use Rattle.trace.specs.Acceptance.{Parsed, acceptAnswer}
 use Rattle.fillings.specs.Fillings.{Config, Shown, seen, unseen}
 use Rattle.fillings.specs.Charge.{inward, outward, ofSeen, ofUnseen, total, chargeIn, chargeOut, unseenTicks}
@@ -37,7 +37,7 @@ use Rattle.demands.specs.Report.{totalsAt}
 use Rattle.demands.proofs.TotalBounds.{Currents, currents}
 use Rattle.live.specs.declared.Live.{Live}
 use Rattle.live.specs.State.{good, begun, withSample, withHole}
-use Rattle.live.specs.Calls.{orKept, beginAnswer, beginState, sampleAnswer, sampleState, holeAnswer, holeState}
+use Rattle.live.specs.Calls.{beginAnswer, beginState, sampleAnswer, sampleState, holeAnswer, holeState}
 use Rattle.live.specs.Promises.{Event, byTick, feed, feedAnswer, feedState, eventsOf, endOf, ReadsTrace, FedTrace}
 use Rattle.live.specs.Promises as events
 use Rattle.live.proofs.Stepping.{as-rules, tickAnswer, tick-next, hole-taken}
@@ -150,13 +150,13 @@ module _ (p : Config) (short : ShortTimes p) (all : List Stamped) where
   fed-sample k x e l s v w t =
       let a : sampleAnswer (stateAt k) (x .tick) (x .sample) ≡ answer tt =
       rw (is-true (good (stateAt k)) t, eq-eqb (length (x .sample .volts)) (p .cells) v, eq-eqb (length (x .sample .temps)) (p .cells) w) (tick-next (stateAt k) (x .tick) e (omega arith)) in
-      (a, ap (λ b. orKept b (withSample (stateAt k) (x .sample)) (stateAt k)) a ∙ sees k (x .sample) s)
+      (a, ap (λ b. orKept b (λ taken. withSample (stateAt k) (x .sample)) (stateAt k)) a ∙ sees k (x .sample) s)
 
   fed-hole : (k last : ℕ) → k ≤ last → last < 0xFFFFFFFF → ((t : ℕ) → k ≤ t → t ≤ last → shownIn all t ≡ unseen)
       → T (good (stateAt k)) → (holeAnswer (stateAt k) last ≡ answer tt) × (holeState (stateAt k) last ≡ stateAt (suc last))
   fed-hole k last l i u t =
       let a = hole-taken (stateAt k) last (is-true (good (stateAt k)) t) l i in
-      (a, ap (λ b. orKept b (withHole (stateAt k) last) (stateAt k)) a ∙ misses k last l u)
+      (a, ap (λ b. orKept b (λ taken. withHole (stateAt k) last) (stateAt k)) a ∙ misses k last l u)
 
   -- all records left
   walked : {m : ℕ} (k : ℕ) (hs : List Hole) (xs : List Stamped) (e : ℕ) → Place m hs xs e → k ≡ length hs + length xs → Same all xs e → Long (p .cells) xs → Currents xs
@@ -177,15 +177,15 @@ module _ (p : Config) (short : ShortTimes p) (all : List Stamped) where
       let (d, n) = walked k hs xs (suc e) r (omega arith) (same-later all x xs e a s) ls cs g in
       (ap (feed (stateAt e)) (sample-next k hs x xs e a c) ∙ fed-next (stateAt e) (events.sample x) (byTick k hs xs) (stateAt (suc e)) y z ∙ d, n)
 
-module _ (s : List ℕ) (report verdicts : ℕ) (w : Parsed) (h : acceptAnswer s report verdicts ≡ answer w) where
+module _ (s : List ℕ) (w : Parsed) (h : acceptAnswer s ≡ answer w) where
   abbrev tr : Trace
   tr = traceOf s w
 
   ok : Accepted tr
-  ok = accepted s report verdicts w h
+  ok = accepted s w h
 
   settings : w .settings ≡ settingsOf (rulesPart s)
-  settings = checks s report verdicts w h .settings
+  settings = checks s w h .settings
 
   short : ShortTimes (tr .config)
   short =
@@ -195,11 +195,11 @@ module _ (s : List ℕ) (report verdicts : ℕ) (w : Parsed) (h : acceptAnswer s
   begun-as : beginAnswer (w .layout .cells) (w .layout .idle) (rulesPart s) ≡ answer tt
   begun-as =
       let r = ok .rules 0 (omega arith) in
-      as-rules (w .layout .cells) (w .layout .idle) (rulesPart s) (in-range (r .leastCells) (r .mostCells)) (r .idle) ∙ checks s report verdicts w h .rules
+      as-rules (w .layout .cells) (w .layout .idle) (rulesPart s) (in-range (r .leastCells) (r .mostCells)) (r .idle) ∙ checks s w h .rules
 
   starts : beginState (w .layout .cells) (w .layout .idle) (rulesPart s) ≡ stateAt (tr .config) short (tr .samples) 0
   starts =
-      ap (λ a. orKept a (begun (w .layout .cells) (w .layout .idle) (settingsOf (rulesPart s))) (begun 3 0 (tabulateFrom 0 16 (λ i. off)))) begun-as
+      ap (λ a. orKept a (λ taken. begun (w .layout .cells) (w .layout .idle) (settingsOf (rulesPart s))) (begun 3 0 (tabulateFrom 0 16 (λ i. off)))) begun-as
       ∙ ap (begun (w .layout .cells) (w .layout .idle)) (sym settings)
       ∙ begins (tr .config) short (tr .samples)
 
@@ -221,5 +221,5 @@ module _ (s : List ℕ) (report verdicts : ℕ) (w : Parsed) (h : acceptAnswer s
       }
 
 pub fed-trace : FedTrace
-fed-trace s report verdicts w h =
-    (begun-as s report verdicts w h, ap (λ (x : Live). feed x (eventsOf (traceOf s w))) (starts s report verdicts w h) ∙ ends s report verdicts w h .0, reads s report verdicts w h)
+fed-trace s w h =
+    (begun-as s w h, ap (λ (x : Live). feed x (eventsOf (traceOf s w))) (starts s w h) ∙ ends s w h .0, reads s w h)

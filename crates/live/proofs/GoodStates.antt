@@ -6,7 +6,7 @@ use native.Mathlib.Omega.{arith}
 use lib.Dec.{leb}
 use lib.ListN.{length, getD, List·getD-eq-default}
 use borrow.Author.Tests.{leb-true, le-leb}
-use Rattle.refusals.specs.Refusals.{Answer, answer, refused}
+use Rattle.refusals.specs.Refusals.{Answer, answer, refused, passes}
 use Rattle.rules.specs.Table.{rows, rowAt}
 use Rattle.limits.specs.Limits.{off, limits, limitsAnswer}
 use Rattle.limits.proofs.RuleSets.{time-small, rule-within}
@@ -16,7 +16,7 @@ use Rattle.states.proofs.KeptValid.{Short}
 use Rattle.states.proofs.Bits.{below?}
 use Rattle.ticks.proofs.Tests.{and-true, by-order}
 use Rattle.live.specs.declared.Live.{Live}
-use Rattle.live.specs.State.{passes, goodRules, goodTotals, good}
+use Rattle.live.specs.State.{goodRules, goodTotals, good}
 
 -- The tests of a state, in their order.
 abbrev pub headGood : Live → Bool

@@ -7,11 +7,11 @@ use native.Mathlib.Omega.{arith}
 use lib.Dec.{T, leb, eqb}
 use lib.ListN.{length}
 use borrow.Author.Tests.{leb-true}
-use Rattle.refusals.specs.Refusals.{Answer, answer, refused}
+use Rattle.refusals.specs.Refusals.{Answer, answer, refused, orKept, passes}
 use Rattle.rules.specs.Table.{rows}
 use Rattle.rules.specs.Samples.{Sample, I16, readingsOf}
 use Rattle.limits.specs.Limits.{off, tabulateFrom, settingsOf, limits, limitsAnswer}
-use Rattle.trace.proofs.Answers.{where-true}
+use Rattle.refusals.proofs.Answers.{where-true}
 use Rattle.fillings.proofs.Bools.{is-true}
 use Rattle.states.specs.Validity.{validRecord}
 use Rattle.states.proofs.KeptValid.{fresh-valid, seen-valid, unseen-valid}
@@ -19,8 +19,8 @@ use Rattle.report.specs.declared.Totals.{Totals}
 use Rattle.demands.proofs.TotalBounds.{in-most, out-most}
 use Rattle.ticks.proofs.Tests.{and-true}
 use Rattle.live.specs.declared.Live.{Live}
-use Rattle.live.specs.State.{passes, good, begun, withSample, withHole}
-use Rattle.live.specs.Calls.{orKept, beginAnswer, sampleAnswer, holeAnswer}
+use Rattle.live.specs.State.{good, begun, withSample, withHole}
+use Rattle.live.specs.Calls.{beginAnswer, sampleAnswer, holeAnswer}
 use Rattle.live.specs.Promises.{StaysGood}
 use Rattle.live.proofs.GoodStates.{GoodState, parts, whole, short, Counted, counted, counts}
 
@@ -95,23 +95,23 @@ hole-forward s last h =
 pub stays-good : StaysGood
 stays-good = record { begins = begins; sees = sees; misses = misses }
   where
-    begins : (n idle : ℕ) (bytes : List ℕ) → T (good (orKept (beginAnswer n idle bytes) (begun n idle (settingsOf bytes)) (begun 3 0 (tabulateFrom 0 16 (λ i. off)))))
+    begins : (n idle : ℕ) (bytes : List ℕ) → T (good (orKept (beginAnswer n idle bytes) (λ taken. begun n idle (settingsOf bytes)) (begun 3 0 (tabulateFrom 0 16 (λ i. off)))))
     begins n idle bytes = go (beginAnswer n idle bytes) refl
       where
-        go : (a : Answer (Unit {0})) → beginAnswer n idle bytes ≡ a → T (good (orKept a (begun n idle (settingsOf bytes)) (begun 3 0 (tabulateFrom 0 16 (λ i. off)))))
+        go : (a : Answer (Unit {0})) → beginAnswer n idle bytes ≡ a → T (good (orKept a (λ taken. begun n idle (settingsOf bytes)) (begun 3 0 (tabulateFrom 0 16 (λ i. off)))))
         go (answer tt) e = begun-good n idle bytes e
         go (refused k p) e = off-good
 
-    sees : (s : Live) (tick : ℕ) (x : Sample) → I16 (x .current) → T (good s) → T (good (orKept (sampleAnswer s tick x) (withSample s x) s))
+    sees : (s : Live) (tick : ℕ) (x : Sample) → I16 (x .current) → T (good s) → T (good (orKept (sampleAnswer s tick x) (λ taken. withSample s x) s))
     sees s tick x i t = go (sampleAnswer s tick x)
       where
-        go : (a : Answer (Unit {0})) → T (good (orKept a (withSample s x) s))
+        go : (a : Answer (Unit {0})) → T (good (orKept a (λ taken. withSample s x) s))
         go (answer tt) = seen-good s x i t
         go (refused k p) = t
 
-    misses : (s : Live) (last : ℕ) → T (good s) → T (good (orKept (holeAnswer s last) (withHole s last) s))
+    misses : (s : Live) (last : ℕ) → T (good s) → T (good (orKept (holeAnswer s last) (λ taken. withHole s last) s))
     misses s last t = go (holeAnswer s last) refl
       where
-        go : (a : Answer (Unit {0})) → holeAnswer s last ≡ a → T (good (orKept a (withHole s last) s))
+        go : (a : Answer (Unit {0})) → holeAnswer s last ≡ a → T (good (orKept a (λ taken. withHole s last) s))
         go (answer tt) e = unseen-good s last (hole-forward s last e) t
         go (refused k p) e = t

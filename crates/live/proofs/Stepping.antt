@@ -9,7 +9,7 @@ use lib.IntN.{ℤ}
 use lib.ListN.{length}
 use borrow.Author.Tests.{le-leb, lt-leb, lt-ltb, le-ltb, eq-eqb, ne-eqb}
 use Rattle.refusals.specs.declared.Refusal.{Refusal}
-use Rattle.refusals.specs.Refusals.{Answer, answer, refused, refusal}
+use Rattle.refusals.specs.Refusals.{Answer, answer, refused, refusal, orKept}
 use Rattle.rules.specs.declared.Settings.{Settings}
 use Rattle.rules.specs.declared.Readings.{Readings}
 use Rattle.rules.specs.Samples.{Sample, readingsOf}
@@ -24,7 +24,7 @@ use Rattle.live.specs.declared.Live.{Live}
 use Rattle.live.specs.declared.Step.{Step}
 use Rattle.live.specs.declared.Fed.the-variants.{Taken, Refused}
 use Rattle.live.specs.State.{good, begun, withSample, withHole}
-use Rattle.live.specs.Calls.{answerOfFed, orKept, beginAnswer, beginState, sampleAnswer, holeAnswer}
+use Rattle.live.specs.Calls.{answerOfFed, beginAnswer, beginState, sampleAnswer, holeAnswer}
 use Rattle.live.specs.Steps.{Stepped, countSample, countHole}
 use Rattle.live.proofs.GoodStates.{parts}
 
@@ -36,7 +36,7 @@ takes e h = rw h (record { answer = refl; state = e })
 
 -- A refused call, of whatever answer.
 pub refused-call : (new : Live) {r : Step} {why : Refusal} {a : Answer (Unit {0})} {old : Live} → r ≡ record { answer = Refused why; state = old } → a ≡ refusal why
-    → (answerOfFed (r .answer) ≡ a) × (r .state ≡ orKept a new old)
+    → (answerOfFed (r .answer) ≡ a) × (r .state ≡ orKept a (λ taken. new) old)
 refused-call new e h = let t = refuses {new = new} e h in (t .answer, t .state)
 
 pub no-sample : (s : Live) (tick : ℕ) (x : Sample) → good s ≡ false → sampleAnswer s tick x ≡ refused 16 0

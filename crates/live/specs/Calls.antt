@@ -5,7 +5,7 @@ use mathlib.Core.List.{List}
 use lib.IntN.{pos, _+ℤ_, _-ℤ_}
 use lib.Dec.{ltb, leb, eqb}
 use lib.ListN.{length}
-use Rattle.refusals.specs.Refusals.{Answer, answer, refused, refusal}
+use Rattle.refusals.specs.Refusals.{Answer, answer, refused, refusal, orKept}
 use Rattle.rules.specs.Table.{rows}
 use Rattle.rules.specs.Samples.{Sample}
 use Rattle.limits.specs.Limits.{limitsAnswer, settingsOf, tabulateFrom, off}
@@ -32,11 +32,6 @@ abbrev pub answerOfFed : Fed → Answer (Unit {0})
 answerOfFed Taken = answer tt
 answerOfFed (Refused why) = refusal why
 
--- The state after a call: the new one, or where it refuses the one it was given.
-abbrev pub orKept : Answer (Unit {0}) → Live → Live → Live
-orKept (answer taken) new old = new
-orKept (refused number place) new old = old
-
 -- A beginning: refusals 3, 4, 6 and 7 in that order.
 unfoldable pub beginAnswer : ℕ → ℕ → List ℕ → Answer (Unit {0})
 beginAnswer n idle bytes =
@@ -46,7 +41,7 @@ beginAnswer n idle bytes =
 
 -- The state that it answers: refused, that begun from n = 3, idle 0 and all rules zero.
 abbrev pub beginState : ℕ → ℕ → List ℕ → Live
-beginState n idle bytes = orKept (beginAnswer n idle bytes) (begun n idle (settingsOf bytes)) (begun 3 0 (tabulateFrom 0 16 (λ i. off)))
+beginState n idle bytes = orKept (beginAnswer n idle bytes) (λ taken. begun n idle (settingsOf bytes)) (begun 3 0 (tabulateFrom 0 16 (λ i. off)))
 
 -- A sample: 16, then 15 for lists that are not n long, then 9 at the expected tick for any other tick, and for FFFFFFFFh.
 unfoldable pub sampleAnswer : Live → ℕ → Sample → Answer (Unit {0})
@@ -58,7 +53,7 @@ sampleAnswer s tick x =
     (refused 16 0)
 
 abbrev pub sampleState : Live → ℕ → Sample → Live
-sampleState s tick x = orKept (sampleAnswer s tick x) (withSample s x) s
+sampleState s tick x = orKept (sampleAnswer s tick x) (λ taken. withSample s x) s
 
 -- A hole up to its last tick: 16, then 8 at the expected tick for a last tick before it, and for FFFFFFFFh.
 unfoldable pub holeAnswer : Live → ℕ → Answer (Unit {0})
@@ -66,7 +61,7 @@ holeAnswer s last =
     cond (good s) (cond (leb (s .totals .ticks) last && ltb last 0xFFFFFFFF) (answer tt) (refused 8 (s .totals .ticks))) (refused 16 0)
 
 abbrev pub holeState : Live → ℕ → Live
-holeState s last = orKept (holeAnswer s last) (withHole s last) s
+holeState s last = orKept (holeAnswer s last) (λ taken. withHole s last) s
 
 -- What a reading call answers of a good state; 16 of any other.
 abbrev pub ofGood : {A : Type 0} → Live → A → Answer A

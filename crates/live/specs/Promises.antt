@@ -5,10 +5,10 @@ use mathlib.Core.Bool.{cond}
 use mathlib.Core.List.{List, [], _∷_}
 use lib.Dec.{T, ltb}
 use lib.ListN.{length}
-use Rattle.refusals.specs.Refusals.{Answer, answer, refused}
+use Rattle.refusals.specs.Refusals.{Answer, answer, refused, andThen}
 use Rattle.rules.specs.Samples.{Sample, I16}
 use Rattle.trace.specs.Records.{Hole, Stamped}
-use Rattle.trace.specs.Sections.{andThen, rulesPart}
+use Rattle.trace.specs.Sections.{rulesPart}
 use Rattle.trace.specs.Acceptance.{Parsed, acceptAnswer}
 use Rattle.states.specs.Readings.{allFlags}
 use Rattle.states.specs.Tracking.{recordAt}
@@ -80,7 +80,7 @@ pub record ReadsTrace (tr : Trace) : Type 0 where
 
 -- Fed an accepted trace from its own beginning, no call refuses, the state ends with the trace's possible states and totals, and the reading calls give its flags, outputs, bits, totals and net charge bounds.
 abbrev pub FedTrace : Type 0
-FedTrace = (s : List ℕ) (report verdicts : ℕ) (w : Parsed) → acceptAnswer s report verdicts ≡ answer w
+FedTrace = (s : List ℕ) (w : Parsed) → acceptAnswer s ≡ answer w
     → (beginAnswer (w .layout .cells) (w .layout .idle) (rulesPart s) ≡ answer tt)
     × (feed (beginState (w .layout .cells) (w .layout .idle) (rulesPart s)) (eventsOf (traceOf s w)) ≡ answer (endOf (traceOf s w)))
     × ReadsTrace (traceOf s w)

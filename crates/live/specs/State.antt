@@ -3,7 +3,7 @@ use Prim.Native.Nat.{ℕ, _+_, _-_, _*_, suc}
 use mathlib.Core.Bool.{Bool, true, false, _&&_}
 use mathlib.Core.List.{List}
 use lib.Dec.{leb}
-use Rattle.refusals.specs.Refusals.{Answer, answer, refused}
+use Rattle.refusals.specs.Refusals.{Answer, answer, refused, passes}
 use Rattle.rules.specs.declared.Setting.{Setting}
 use Rattle.rules.specs.Table.{rows}
 use Rattle.rules.specs.Samples.{Sample, readingsOf}
@@ -15,11 +15,6 @@ use Rattle.states.specs.Records.{fresh}
 use Rattle.states.specs.Steps.{afterSeen, afterUnseen}
 use Rattle.states.specs.Validity.{validRecord}
 use Rattle.live.specs.declared.Live.{Live}
-
--- Whether a check passes.
-abbrev pub passes : {A : Type 0} → Answer A → Bool
-passes (answer a) = true
-passes (refused number place) = false
 
 -- The head and the rules of a state are within their limits.
 abbrev pub goodRules : Live → Bool

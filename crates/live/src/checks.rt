@@ -2,9 +2,10 @@
 ghost use mathlib.Core.Path.{_≡_};
 ghost use mathlib.Core.Bool.{_&&_};
 ghost use lib.Dec.{leb};
+ghost use Rattle.refusals.specs.Refusals.{passes};
 ghost use Rattle.rules.specs.Table.{rows};
 ghost use Rattle.limits.specs.Limits.{limitsAnswer};
-ghost use Rattle.live.specs.State.{passes, good};
+ghost use Rattle.live.specs.State.{good};
 use crate::Live;
 use limits::Limited;
 use rules::Settings;

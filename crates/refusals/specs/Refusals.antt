@@ -1,5 +1,6 @@
 -- Paper 01, 'Refusal numbers': the number and the place of each reason, and what a call answers in the paper's numbers.
 use Prim.Native.Nat.{ℕ}
+use mathlib.Core.Bool.{Bool, true, false}
 use Rattle.refusals.specs.declared.Refusal.{Refusal}
 use Rattle.refusals.specs.declared.Refusal.the-variants.{TooShort, Version, CellCount, IdleCurrent, PastEnd, RuleCount, Limits, Hole, Coverage, ReplyTick, LeftOver, ReportLength, VerdictLength, InputLength, BufferLength, State}
 
@@ -49,3 +50,18 @@ pub data Answer (A : Type 0) : Type 0 where
 -- The answer of a call that refuses.
 abbrev pub refusal : {A : Type 0} → Refusal → Answer A
 refusal r = refused (numberOf r) (placeOf r)
+
+-- What comes after an answer; a refusal ends it.
+abbrev pub andThen : {A B : Type 0} → Answer A → (A → Answer B) → Answer B
+andThen (answer a) k = k a
+andThen (refused number place) k = refused number place
+
+-- Whether a check passes.
+abbrev pub passes : {A : Type 0} → Answer A → Bool
+passes (answer a) = true
+passes (refused number place) = false
+
+-- A buffer or a state after a call: what an answer puts there, or what a refusal leaves.
+abbrev pub orKept : {A B : Type 0} → Answer A → (A → B) → B → B
+orKept (answer a) new old = new a
+orKept (refused number place) new old = old

@@ -7,7 +7,7 @@ use native.Mathlib.Omega.{arith}
 use lib.ListN.{length, getD, List·getD-eq-default}
 use lib.Dec.{T, ltb, leb, eqb}
 use borrow.Author.Tests.{ltb-true, ltb-false, leb-true, eqb-true}
-use Rattle.refusals.specs.Refusals.{answer}
+use Rattle.refusals.specs.Refusals.{answer, andThen}
 use Rattle.bytes_le.specs.Numbers.{u16At}
 use Rattle.rules.specs.declared.Row.{Row}
 use Rattle.rules.specs.declared.Setting.{Setting}
@@ -16,11 +16,11 @@ use Rattle.limits.specs.Limits.{off, limits, limitsAnswer, settingsOf}
 use Rattle.limits.specs.Limits as L
 use Rattle.limits.proofs.RuleSets.{time-small, rule-within}
 use Rattle.trace.specs.Records.{Hole, Reply, Stamped, sampleWidth}
-use Rattle.trace.specs.Sections.{andThen, headAnswer, rulesAnswer, sectionAnswer, walkAnswer, rulesPart}
+use Rattle.trace.specs.Sections.{headAnswer, rulesAnswer, sectionAnswer, walkAnswer, rulesPart}
 use Rattle.trace.specs.Coverage.{holesAnswer, coverAnswer, repliesAnswer}
 use Rattle.trace.specs.Acceptance.{Parsed, recordsAnswer, acceptAnswer}
 use Rattle.trace.specs.declared.Layout.{Layout}
-use Rattle.trace.proofs.Answers.{unless, where-true, answered}
+use Rattle.refusals.proofs.Answers.{unless, where-true, answered}
 use Rattle.trace.proofs.Layouts.{laid}
 use Rattle.fillings.specs.Fillings.{Config, SoundConfig}
 use Rattle.fillings.proofs.Bools.{is-true}
@@ -28,30 +28,20 @@ use Rattle.ticks.specs.Traces.{traceOf, Accepted}
 use Rattle.ticks.proofs.Tests.{and-true}
 
 -- Each check of an accepted trace.
-pub record Checks (s : List ℕ) (report verdicts : ℕ) (w : Parsed) : Type 0 where
-  pub long : report ≡ 187
+pub record Checks (s : List ℕ) (w : Parsed) : Type 0 where
   pub walked : walkAnswer s ≡ answer (w .layout)
-  pub counted : verdicts ≡ w .layout .«reply_count»
   pub rules : L.ruleSetAnswer (w .layout .cells) (rulesPart s) ≡ answer tt
   pub records : recordsAnswer s (w .layout) ≡ answer (w .ticks)
   pub settings : w .settings ≡ settingsOf (rulesPart s)
 
-pub checks : (s : List ℕ) (report verdicts : ℕ) (w : Parsed) → acceptAnswer s report verdicts ≡ answer w → Checks s report verdicts w
+pub checks : (s : List ℕ) (w : Parsed) → acceptAnswer s ≡ answer w → Checks s w
 unfolding acceptAnswer
-checks s report verdicts w h =
-    let a = where-true (eqb report 187) 12 0 _ h in
-    answered (walkAnswer s) _ _ (a .1) (λ l b h₁.
-    let c = where-true (eqb verdicts (l .«reply_count»)) 13 0 _ h₁ in
-    answered (L.ruleSetAnswer (l .cells) (rulesPart s)) _ _ (c .1) (λ u d h₂.
+checks s w h =
+    answered (walkAnswer s) _ _ h (λ l b h₁.
+    answered (L.ruleSetAnswer (l .cells) (rulesPart s)) _ _ h₁ (λ u d h₂.
     answered (recordsAnswer s l) _ _ h₂ (λ t f h₃.
     let j : record { layout = l; settings = settingsOf (rulesPart s); ticks = t } ≡ w = cc in
-    rw (← j) (record { long = eqb-true report 187 (a .0); walked = b; counted = eqb-true verdicts (l .«reply_count») (c .0); rules = d; records = f; settings = refl }))))
-
-pub inverted : (s : List ℕ) (report verdicts : ℕ) (w : Parsed) → acceptAnswer s report verdicts ≡ answer w
-    → (report ≡ 187) × (walkAnswer s ≡ answer (w .layout)) × (verdicts ≡ w .layout .«reply_count») × (w .settings ≡ settingsOf (rulesPart s))
-inverted s report verdicts w h =
-    let c = checks s report verdicts w h in
-    (c .long, c .walked, c .counted, c .settings)
+    rw (← j) (record { walked = b; rules = d; records = f; settings = refl }))))
 
 head-idle : (s : List ℕ) {u : Unit {0}} → headAnswer s ≡ answer u → u16At s 2 ≤ 32766
 unfolding headAnswer
@@ -99,9 +89,9 @@ records-are hs xs rs m h =
     let e : t ≡ m = cc in
     (a, rw e at b, rw e at c))))
 
-pub accepted : (s : List ℕ) (report verdicts : ℕ) (w : Parsed) → acceptAnswer s report verdicts ≡ answer w → Accepted (traceOf s w)
-accepted s report verdicts w h =
-    let c = checks s report verdicts w h in
+pub accepted : (s : List ℕ) (w : Parsed) → acceptAnswer s ≡ answer w → Accepted (traceOf s w)
+accepted s w h =
+    let c = checks s w h in
     let e = c .settings in
     let tr = traceOf s w in
     let (holes, covered, replies) = records-are (tr .holes) (tr .samples) (tr .replies) (w .ticks) (c .records) in

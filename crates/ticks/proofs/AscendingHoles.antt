@@ -10,7 +10,7 @@ use borrow.Author.Tests.{le-ltb, ltb-false, lt-leb}
 use Rattle.refusals.specs.Refusals.{answer}
 use Rattle.trace.specs.Records.{Hole}
 use Rattle.trace.specs.Coverage.{holesAnswer}
-use Rattle.trace.proofs.Answers.{unless}
+use Rattle.refusals.proofs.Answers.{unless}
 use Rattle.ticks.specs.Traces.{inHole}
 use Rattle.ticks.proofs.Tests.{or-false}
 

@@ -121,8 +121,8 @@ some-record : (a b : Bool) → a ≡ false → b ≡ false → T (a || b) → �
 some-record a b e f t = let r : T false = rw (e, f) at t in r
 
 pub missing-second : MissingSecond
-missing-second s report verdicts w t u l r a b h =
-    let c = covered-once (traceOf s w) (accepted s report verdicts w h) in
+missing-second s w t u l r a b h =
+    let c = covered-once (traceOf s w) (accepted s w h) in
     by-order u (w .ticks)
     (λ n. let q : false ≡ true = sym a ∙ c .once t (omega arith) ∙ ap not b in let z : _≡_ {A = ℕ} 0 1 = cc in omega arith)
     (λ n. let (x, y) = c .none u n in some-record _ _ x y r)

@@ -11,7 +11,7 @@ use borrow.Author.Tests.{ltb-false, leb-false, le-ltb, le-leb, lt-leb, eq-eqb, n
 use Rattle.refusals.specs.Refusals.{answer}
 use Rattle.trace.specs.Records.{Hole, Reply, Stamped}
 use Rattle.trace.specs.Coverage.{holeNext, sampleNext, coverAnswer, repliesAnswer}
-use Rattle.trace.proofs.Answers.{unless}
+use Rattle.refusals.proofs.Answers.{unless}
 use Rattle.ticks.specs.Traces.{Trace, shownIn, hasSample, Accepted}
 use Rattle.ticks.specs.Cut.{cutHoles, cutReplies, cutSamples, cutAt}
 use Rattle.ticks.specs.Promises.{CutHolds}

@@ -11,7 +11,7 @@ use borrow.Author.Tests.{leb-false, eqb-true, eq-eqb, ne-eqb}
 use Rattle.refusals.specs.Refusals.{answer, refused}
 use Rattle.trace.specs.Records.{Hole, Stamped}
 use Rattle.trace.specs.Coverage.{holeNext, afterHole, sampleNext, rest, taking, coverAnswer}
-use Rattle.trace.proofs.Answers.{clash, unless}
+use Rattle.refusals.proofs.Answers.{clash, unless}
 use Rattle.fillings.specs.Fillings.{seen, unseen}
 use Rattle.ticks.specs.Traces.{Trace, shownIn, hasSample, Accepted}
 use Rattle.ticks.specs.Places.{NotYet, Place, done, hole, sample}

@@ -35,10 +35,10 @@ pub record CoveredOnce (tr : Trace) : Type 0 where
 -- A missing second before the last record is refused unless declared: a trace with a record at a later tick u and neither sample nor hole at t is not accepted.
 abbrev pub MissingSecond : Type 0
 MissingSecond =
-    (s : List ℕ) (report verdicts : ℕ) (w : Parsed) (t u : ℕ) → t < u
+    (s : List ℕ) (w : Parsed) (t u : ℕ) → t < u
     → T (hasSample (traceOf s w .samples) u || inHole (traceOf s w .holes) u)
     → hasSample (traceOf s w .samples) t ≡ false → inHole (traceOf s w .holes) t ≡ false
-    → ¬ (acceptAnswer s report verdicts ≡ answer w)
+    → ¬ (acceptAnswer s ≡ answer w)
 
 -- The trace cut at a covered tick is accepted and shows the same up to that tick; cut at its last tick it is the trace.
 pub record CutHolds (tr : Trace) : Type 0 where

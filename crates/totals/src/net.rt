@@ -3,7 +3,6 @@ ghost use mathlib.Core.Path.{_≡_};
 ghost use Prim.Native.Nat.{_*_, _≤_};
 ghost use lib.IntN.{pos, _+ℤ_, _-ℤ_};
 ghost use Rattle.refusals.specs.Refusals.{answer};
-ghost use Rattle.trace.specs.Sections.{walkAnswer, replyCount};
 ghost use Rattle.trace.specs.Acceptance.{Parsed, acceptAnswer};
 ghost use Rattle.totals.specs.Totals.{countable, netOf, netAnswer, answerOfNet};
 use crate::NetCharge;
@@ -45,7 +44,7 @@ pub fn net_of_totals(charge_in: u64, charge_out: u64, unseen: u32, ticks: u32) -
 
 // The bounds of an accepted trace with its layout.
 pub(crate) fn net_of(s: &[u8], l: Layout) -> NetCharge
-    requires { ⌜ ((w : Parsed) × (acceptAnswer (now s) 187 (replyCount (walkAnswer (now s))) ≡ answer w) × (w .layout ≡ l)) ⌝ }
+    requires { ⌜ ((w : Parsed) × (acceptAnswer (now s) ≡ answer w) × (w .layout ≡ l)) ⌝ }
     ensures { λ r. ⌜ answerOfNet r ≡ netAnswer (now (s .entry)) ⌝ }
 {
     let a = l.holes;

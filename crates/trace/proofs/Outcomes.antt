@@ -2,7 +2,6 @@
 use Prim.Native.Nat.{ℕ}
 use mathlib.Core.Path.{_≡_}
 use mathlib.Core.List.{List}
-use borrow.Author.Tests.{eq-eqb, ne-eqb}
 use Rattle.refusals.specs.declared.Refusal.{Refusal}
 use Rattle.refusals.specs.Refusals.{Answer, answer, refused, refusal}
 use Rattle.limits.specs.Limits.{ruleSetAnswer, settingsOf}
@@ -18,29 +17,20 @@ pub refuses : {r : Acceptance} {why : Refusal} {a : Answer Parsed}
     → (answerOfAccept (r .answer) ≡ ticksOf a) × ((r .layout ≡ layoutOf a) × (r .settings .of ≡ settingsIn a))
 refuses (e, f, g) h = (rw (e, h), (rw (f, h), rw (g, h)))
 
-pub no-report : (s : List ℕ) {report : ℕ} (verdicts : ℕ) → (report ≡ 187 → ⊥) → acceptAnswer s report verdicts ≡ refused 12 0
+pub no-sections : (s : List ℕ) {n p : ℕ} → walkAnswer s ≡ refused n p → acceptAnswer s ≡ refused n p
 unfolding acceptAnswer
-no-report s {report} verdicts h = rw (ne-eqb report 187 h)
+no-sections s w = rw w
 
-pub no-sections : (s : List ℕ) {report : ℕ} (verdicts : ℕ) {n p : ℕ} → report ≡ 187 → walkAnswer s ≡ refused n p → acceptAnswer s report verdicts ≡ refused n p
-unfolding acceptAnswer
-no-sections s {report} verdicts h w = rw (eq-eqb report 187 h, w)
-
-module _ (s : List ℕ) {l : Layout} {verdicts : ℕ} (w : walkAnswer s ≡ answer l) where
-  pub no-verdicts : (verdicts ≡ l .«reply_count» → ⊥) → acceptAnswer s 187 verdicts ≡ refused 13 0
+module _ (s : List ℕ) {l : Layout} (w : walkAnswer s ≡ answer l) where
+  pub no-rules : {n p : ℕ} → ruleSetAnswer (l .cells) (rulesPart s) ≡ refused n p → acceptAnswer s ≡ refused n p
   unfolding acceptAnswer
-  no-verdicts h = rw (w, ne-eqb verdicts (l .«reply_count») h)
+  no-rules h = rw (w, h)
 
-  module _ (v : verdicts ≡ l .«reply_count») where
-    pub no-rules : {n p : ℕ} → ruleSetAnswer (l .cells) (rulesPart s) ≡ refused n p → acceptAnswer s 187 verdicts ≡ refused n p
+  module _ {u : Unit {0}} (limits : ruleSetAnswer (l .cells) (rulesPart s) ≡ answer u) where
+    pub no-records : {n p : ℕ} → recordsAnswer s l ≡ refused n p → acceptAnswer s ≡ refused n p
     unfolding acceptAnswer
-    no-rules h = rw (w, eq-eqb verdicts (l .«reply_count») v, h)
+    no-records h = rw (w, limits, h)
 
-    module _ {u : Unit {0}} (limits : ruleSetAnswer (l .cells) (rulesPart s) ≡ answer u) where
-      pub no-records : {n p : ℕ} → recordsAnswer s l ≡ refused n p → acceptAnswer s 187 verdicts ≡ refused n p
-      unfolding acceptAnswer
-      no-records h = rw (w, eq-eqb verdicts (l .«reply_count») v, limits, h)
-
-      pub accepted : {t : ℕ} → recordsAnswer s l ≡ answer t → acceptAnswer s 187 verdicts ≡ answer (record { layout = l; settings = settingsOf (rulesPart s); ticks = t })
-      unfolding acceptAnswer
-      accepted h = rw (w, eq-eqb verdicts (l .«reply_count») v, limits, h)
+    pub accepted : {t : ℕ} → recordsAnswer s l ≡ answer t → acceptAnswer s ≡ answer (record { layout = l; settings = settingsOf (rulesPart s); ticks = t })
+    unfolding acceptAnswer
+    accepted h = rw (w, limits, h)

@@ -1,15 +1,13 @@
--- Paper 01, 'Refusal numbers': the trace order whole: 12; 1 to 4; the sections with 5 and 6; 11; 13; 7; 8; 9; 10.
+-- Paper 01, 'Refusal numbers': the acceptance of a trace's bytes: 1 to 4; the sections with 5 and 6; 11; 7; 8; 9; 10.
 use Prim.Native.Nat.{ℕ, _+_}
-use mathlib.Core.Bool.{cond}
 use mathlib.Core.List.{List}
-use lib.Dec.{eqb}
 use lib.ListN.{length}
-use Rattle.refusals.specs.Refusals.{Answer, answer, refused, refusal}
+use Rattle.refusals.specs.Refusals.{Answer, answer, refused, refusal, andThen}
 use Rattle.rules.specs.declared.Setting.{Setting}
 use Rattle.limits.specs.Limits.{off, tabulateFrom, settingsOf}
 use Rattle.limits.specs.Limits as limits
 use Rattle.trace.specs.Records.{holesIn, repliesIn, samplesIn}
-use Rattle.trace.specs.Sections.{andThen, walkAnswer, rulesPart, holesPart, repliesPart, samplesPart}
+use Rattle.trace.specs.Sections.{walkAnswer, rulesPart, holesPart, repliesPart, samplesPart}
 use Rattle.trace.specs.Coverage.{holesAnswer, coverAnswer, repliesAnswer}
 use Rattle.trace.specs.declared.Layout.{Layout}
 use Rattle.trace.specs.declared.Accepted.{Accepted}
@@ -29,17 +27,13 @@ pub record Parsed : Type 0 where
   pub settings : List Setting
   pub ticks : ℕ
 
--- The acceptance of a trace, with the lengths of the lent report and verdict buffer.
-unfoldable pub acceptAnswer : List ℕ → ℕ → ℕ → Answer Parsed
-acceptAnswer s report verdicts =
-    cond (eqb report 187)
-    (andThen (walkAnswer s) (λ l.
-    cond (eqb verdicts (l .«reply_count»))
-    (andThen (limits.ruleSetAnswer (l .cells) (rulesPart s)) (λ rules.
+-- The acceptance of a trace's bytes.
+unfoldable pub acceptAnswer : List ℕ → Answer Parsed
+acceptAnswer s =
+    andThen (walkAnswer s) (λ l.
+    andThen (limits.ruleSetAnswer (l .cells) (rulesPart s)) (λ rules.
     andThen (recordsAnswer s l) (λ ticks.
     answer (record { layout = l; settings = settingsOf (rulesPart s); ticks = ticks }))))
-    (refused 13 0)))
-    (refused 12 0)
 
 -- What `accept` answers, in the paper's numbers: the ticks, or a refusal.
 abbrev pub answerOfAccept : Accepted → Answer ℕ

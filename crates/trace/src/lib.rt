@@ -100,18 +100,14 @@ pub struct Acceptance {
     pub settings: Settings,
 }
 
-// Accepts a trace, or refuses it for the first reason in the paper's order; `report` and `verdicts` are the lengths of the
-// buffers that a judge is lent.
-pub fn accept(s: &[u8], report: usize, verdicts: usize) -> Acceptance
-    ensures answer { λ r. ⌜ answerOfAccept (r .answer) ≡ ticksOf (acceptAnswer (now (s .entry)) report verdicts) ⌝ }
-    ensures layout { λ r. ⌜ r .layout ≡ layoutOf (acceptAnswer (now (s .entry)) report verdicts) ⌝ }
-    ensures settings { λ r. ⌜ r .settings .of ≡ settingsIn (acceptAnswer (now (s .entry)) report verdicts) ⌝ }
+// Accepts a trace, or refuses it for the first reason in the paper's order.
+pub fn accept(s: &[u8]) -> Acceptance
+    ensures answer { λ r. ⌜ answerOfAccept (r .answer) ≡ ticksOf (acceptAnswer (now (s .entry))) ⌝ }
+    ensures layout { λ r. ⌜ r .layout ≡ layoutOf (acceptAnswer (now (s .entry))) ⌝ }
+    ensures settings { λ r. ⌜ r .settings .of ≡ settingsIn (acceptAnswer (now (s .entry))) ⌝ }
 {
-    if report != 187 {
-        return refuse(Refusal::ReportLength);
-    }
     match walk_sections(s) {
         Walk::Refused(why) => refuse(why),
-        Walk::Whole(l) => accept_layout(s, l, verdicts),
+        Walk::Whole(l) => accept_layout(s, l),
     }
 }

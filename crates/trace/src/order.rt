@@ -2,9 +2,9 @@
 ghost use mathlib.Core.Path.{_≡_};
 ghost use Prim.Native.Nat.{_≤_};
 ghost use lib.ListN.{length};
-ghost use Rattle.refusals.specs.Refusals.{answer, refused};
+ghost use Rattle.refusals.specs.Refusals.{answer, refused, andThen};
 ghost use Rattle.trace.specs.Records.{repliesIn};
-ghost use Rattle.trace.specs.Sections.{andThen, walkAnswer};
+ghost use Rattle.trace.specs.Sections.{walkAnswer};
 ghost use Rattle.trace.specs.Coverage.{repliesAnswer};
 ghost use Rattle.trace.specs.Acceptance.{recordsAnswer, acceptAnswer, answerOfAccept, ticksOf, layoutOf, settingsIn};
 use crate::Acceptance;
@@ -79,16 +79,13 @@ fn accept_records(s: &[u8], l: Layout) -> Accepted
     }
 }
 
-// Refusals 13 and 7, and those of the records.
-pub(crate) fn accept_layout(s: &[u8], l: Layout, verdicts: usize) -> Acceptance
+// Refusal 7, and those of the records.
+pub(crate) fn accept_layout(s: &[u8], l: Layout) -> Acceptance
     requires { ⌜ walkAnswer (now s) ≡ answer l ⌝ }
-    ensures answer { λ r. ⌜ answerOfAccept (r .answer) ≡ ticksOf (acceptAnswer (now (s .entry)) 187 verdicts) ⌝ }
-    ensures layout { λ r. ⌜ r .layout ≡ layoutOf (acceptAnswer (now (s .entry)) 187 verdicts) ⌝ }
-    ensures settings { λ r. ⌜ r .settings .of ≡ settingsIn (acceptAnswer (now (s .entry)) 187 verdicts) ⌝ }
+    ensures answer { λ r. ⌜ answerOfAccept (r .answer) ≡ ticksOf (acceptAnswer (now (s .entry))) ⌝ }
+    ensures layout { λ r. ⌜ r .layout ≡ layoutOf (acceptAnswer (now (s .entry))) ⌝ }
+    ensures settings { λ r. ⌜ r .settings .of ≡ settingsIn (acceptAnswer (now (s .entry))) ⌝ }
 {
-    if verdicts != l.reply_count {
-        return refuse(Refusal::VerdictLength);
-    }
     let checked = check_rules(l.cells, &s[6..166]);
     let limited = checked.answer;
     if let Limited::Refused(why) = limited {

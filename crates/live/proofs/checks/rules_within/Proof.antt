@@ -1,7 +1,7 @@
 use mathlib.Core.Path.{ap, sym, _∙_}
+use Rattle.refusals.specs.Refusals.{passes}
 use Rattle.limits.specs.declared.Limited.{Limited}
 use Rattle.limits.specs.Limits.{answerOfLimits}
-use Rattle.live.specs.State.{passes}
 use borrow.Author.Needs.{needs}
 use Rattle.live.proofs.checks.rules_within.Statement.{statement}
 use Rattle.live.proofs.checks.rules_within.Tie as tie

@@ -3,8 +3,7 @@ use Prim.Native.Nat.{ℕ}
 use mathlib.Core.Path.{_≡_, refl}
 use mathlib.Core.Bool.{Bool, true, false, cond}
 use native.Mathlib.Omega.{arith}
-use Rattle.refusals.specs.Refusals.{Answer, answer, refused}
-use Rattle.trace.specs.Sections.{andThen}
+use Rattle.refusals.specs.Refusals.{Answer, answer, refused, andThen}
 
 pub clash : {A : Type 0} {n p : ℕ} {a : A} → refused n p ≡ answer a → ⊥
 clash h = let z : _≡_ {A = ℕ} 0 1 = cc in omega arith
