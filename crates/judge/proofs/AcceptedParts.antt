@@ -1,37 +1,33 @@
 -- The parts of an accepted trace, and what is written of them.
-use Prim.Native.Nat.{ℕ, suc, _+_, _-_, _*_, _/_, _≤_, _<_}
-use mathlib.Core.Path.{_≡_, refl, sym, ap, subst, _∙_}
+use Prim.Native.Nat.{ℕ, _+_, _*_, _/_, _≤_, _<_}
+use mathlib.Core.Path.{_≡_, refl, sym, ap, _∙_}
 use mathlib.Core.Bool.{Bool, cond}
 use mathlib.Core.List.{List, map}
-use native.Mathlib.Nat.{div-mul-le-self}
 use native.Mathlib.Omega.{arith}
-use lib.Dec.{eqb}
 use lib.ListN.{length, getD}
 use borrow.Author.Tests.{eq-eqb}
 use Rattle.refusals.specs.Refusals.{Answer, answer, refused}
+use Rattle.refusals.proofs.Answers.{clash}
 use Rattle.rules.specs.declared.Setting.{Setting}
+use Rattle.rules.specs.declared.Settings.{Settings}
 use Rattle.trace.specs.declared.Layout.{Layout}
 use Rattle.trace.specs.Records.{repliesIn, sampleWidth}
-use Rattle.trace.specs.Sections.{holesPart, repliesPart, samplesPart}
+use Rattle.trace.specs.Sections.{walkAnswer, holesPart, repliesPart, samplesPart}
 use Rattle.trace.specs.Acceptance.{Parsed, acceptAnswer, ticksOf, layoutOf, settingsIn}
-use Rattle.refusals.proofs.Answers.{clash}
 use Rattle.trace.proofs.Layouts.{PartsAre, parts-are, length-part, replies-start, few-replies}
-use Rattle.trace.proofs.TickBounds.{ticks-small}
 use Rattle.flags.specs.declared.RuleFlags.{RuleFlags}
 use Rattle.report.specs.declared.FirstTicks.{FirstTicks}
 use Rattle.report.specs.declared.Totals.{Totals}
 use Rattle.report.specs.Layout.{reportBytes, reported}
-use Rattle.fillings.specs.Charge.{inward, outward}
-use Rattle.totals.specs.Totals.{chargeSum, unseenSum}
-use Rattle.totals.proofs.AcceptedTotals.{summed}
+use Rattle.totals.proofs.AcceptedTotals as totals
 use Rattle.ticks.specs.Traces.{traceOf, shown}
-use Rattle.ticks.proofs.AcceptedBytes.{accepted, inverted, short-times}
-use Rattle.ticks.proofs.Places.{place-start}
+use Rattle.ticks.proofs.AcceptedBytes.{accepted, checks, short-times}
 use Rattle.demands.specs.Report.{flagsAt, firstsAt, totalsAt, traceReport}
 use Rattle.demands.specs.Verdicts.{verdictOn, traceVerdicts}
-use Rattle.judge.specs.Walk.{configOf, shows, startOf, Stands}
-use Rattle.judge.specs.Ending.{Parts}
-use Rattle.judge.specs.Judge.{judgeAnswer, orKept}
+use Rattle.walk.proofs.Starting.{stands-start}
+use Rattle.judge.specs.declared.advance.Frame.{Frame}
+use Rattle.judge.specs.inner.Walk.{configIn, Ready}
+use Rattle.judge.specs.inner.Ending.{summed, Parts}
 
 -- What `accept` answers is an acceptance or a refusal.
 pub accepted-whole : (a : Answer Parsed) {t : ℕ} {l : Layout} {ss : List Setting} → answer t ≡ ticksOf a → l ≡ layoutOf a → ss ≡ settingsIn a → a ≡ answer (record { layout = l; settings = ss; ticks = t })
@@ -40,25 +36,9 @@ accepted-whole (answer w) {t} {l} {ss} e f g =
     rw (d, f, g)
 accepted-whole (refused n p) e f g = absurd (clash (sym e))
 
--- A refused trace leaves both buffers, and an accepted one fills them.
-pub refuses : (a : Answer Parsed) (f g : Parsed → List ℕ) (report verdicts : List ℕ) {n p : ℕ} → refused n p ≡ ticksOf a
-    → (refused n p ≡ judgeAnswer a) × ((report ≡ orKept a f report) × (verdicts ≡ orKept a g verdicts))
-refuses (answer w) f g report verdicts e = absurd (clash e)
-refuses (refused n p) f g report verdicts e = (cc, (refl, refl))
-
-pub accepts : (a : Answer Parsed) (f g : Parsed → List ℕ) (report verdicts : List ℕ) {w : Parsed} {report′ verdicts′ : List ℕ} → a ≡ answer w → report′ ≡ f w → verdicts′ ≡ g w
-    → (answer tt ≡ judgeAnswer a) × ((report′ ≡ orKept a f report) × (verdicts′ ≡ orKept a g verdicts))
-accepts a f g report verdicts e r v = rw e (refl, (r, v))
-
--- The totals of the parts.
-abbrev pub sums : List ℕ → Parsed → Totals
-sums s w =
-    record {
-      «charge_in» = chargeSum inward (w .layout .cells) (samplesPart s (w .layout));
-      «charge_out» = chargeSum outward (w .layout .cells) (samplesPart s (w .layout));
-      unseen = unseenSum (holesPart s (w .layout));
-      ticks = w .ticks;
-    }
+-- The layout of the sections is that of the trace.
+pub same-count : (s : List ℕ) {l : Layout} {w : Parsed} → walkAnswer s ≡ answer l → acceptAnswer s ≡ answer w → l .«reply_count» ≡ w .layout .«reply_count»
+same-count s {l} {w} a h = let e : answer l ≡ answer (w .layout) = sym a ∙ checks s w h .walked in cc
 
 written : (fs : List RuleFlags) (ts : List FirstTicks) (t : Totals) (buffer : List ℕ) → length buffer ≡ 187 → reported fs ts t buffer ≡ reportBytes fs ts t
 unfolding reported
@@ -68,59 +48,54 @@ totals-same : {i j o p u v t : ℕ} → i ≡ j → o ≡ p → u ≡ v
     → _≡_ {A = Totals} (record { «charge_in» = i; «charge_out» = o; unseen = u; ticks = t }) (record { «charge_in» = j; «charge_out» = p; unseen = v; ticks = t })
 totals-same e f g = rw (e, f, g)
 
-module _ (s : List ℕ) (report verdicts : ℕ) (w : Parsed) (h : acceptAnswer s report verdicts ≡ answer w) where
-  pub parts : PartsAre s (w .layout)
-  parts = parts-are s (w .layout) (inverted s report verdicts w h .1)
+module _ (s : List ℕ) (l : Layout) (ss : Settings) (t : ℕ) (h : acceptAnswer s ≡ answer (record { layout = l; settings = ss .of; ticks = t })) where
+  abbrev w : Parsed
+  w = record { layout = l; settings = ss .of; ticks = t }
 
-  sixteen : length (w .settings) ≤ 16
-  sixteen = let e = ap length (inverted s report verdicts w h .3) in omega arith
+  pub parts : PartsAre s l
+  parts = parts-are s l (checks s w h .walked)
 
-  stands : Stands (configOf (w .layout .cells) (w .layout .idle) (w .settings)) (holesPart s (w .layout)) (samplesPart s (w .layout)) (w .ticks) (startOf (holesPart s (w .layout)) (samplesPart s (w .layout)) (w .layout .cells))
-  stands =
-      let ok = accepted s report verdicts w h in
-      record {
-        sound = ok .rules;
-        short = short-times (traceOf s w .config) (ok .rules) sixteen;
-        small = ticks-small _ _ _ (ok .holes) (ok .covered);
-        place = place-start (traceOf s w) ok;
-        inHoles = omega arith;
-        inSamples = omega (arith, div-mul-le-self (length (samplesPart s (w .layout))) (sampleWidth (w .layout .cells)));
-        ahead = λ t i. refl;
-        last = λ t e. absurd (omega arith);
-      }
+  sixteen : length (ss .of) ≤ 16
+  sixteen = let e = ap length (checks s w h .settings) in omega arith
 
-  reply-count : verdicts ≡ length (repliesPart s (w .layout)) / 10
+  reply-count : l .«reply_count» ≡ length (repliesPart s l) / 10
   reply-count =
-      let l = w .layout in
       let g = parts in
       let long = length-part s (l .replies) (l .«replies_end») (replies-start g) (g .replies-end) in
-      omega (arith, inverted s report verdicts w h .2, g .counted, g .replies)
+      omega (arith, g .counted, g .replies)
 
-  pub is-parts : ((i : ℕ) → getD s i 0 < 256) → Parts (configOf (w .layout .cells) (w .layout .idle) (w .settings)) (holesPart s (w .layout)) (repliesPart s (w .layout)) (samplesPart s (w .layout)) (w .ticks) verdicts
-  is-parts bytes =
-      record {
-        stands = stands;
-        ticksOfReplies = accepted s report verdicts w h .replies;
-        count = reply-count;
-        few = few-replies parts (omega (arith, bytes (w .layout .«holes_end»), bytes (w .layout .«holes_end» + 1)));
-        unseenFew = summed s report verdicts w h bytes .small;
-      }
+  module _ (width : ℕ) (wide : width ≡ sampleWidth (l .cells)) where
+    abbrev frame : Frame
+    frame = record { cells = l .cells; idle = l .idle; width = width; ticks = t; settings = ss }
 
-  -- the totals of the parts are those of the trace
-  totals-are : ((i : ℕ) → getD s i 0 < 256)
-      → sums s w
-      ≡ totalsAt (shown (traceOf s w)) (w .ticks)
-  totals-are bytes = let t = summed s report verdicts w h bytes in totals-same (t .sumIn) (t .sumOut) (t .sumUnseen)
+    ready : Ready frame
+    ready = let ok = accepted s w h in record { sound = ok .rules; short = short-times (traceOf s w .config) (ok .rules) sixteen; wide = wide }
 
-  pub report-is : ((i : ℕ) → getD s i 0 < 256) → (buffer : List ℕ) → report ≡ length buffer
-      → reported (flagsAt (configOf (w .layout .cells) (w .layout .idle) (w .settings)) (shown (traceOf s w)) (w .ticks)) (firstsAt (configOf (w .layout .cells) (w .layout .idle) (w .settings)) (shown (traceOf s w)) (w .ticks)) (sums s w) buffer
-      ≡ traceReport (traceOf s w)
-  unfolding traceReport
-  report-is bytes buffer e =
-      let fs = flagsAt (traceOf s w .config) (shown (traceOf s w)) (w .ticks) in
-      let ts = firstsAt (traceOf s w .config) (shown (traceOf s w)) (w .ticks) in
-      written fs ts (sums s w) buffer (sym e ∙ inverted s report verdicts w h .0) ∙ ap (reportBytes fs ts) (totals-are bytes)
+    pub is-parts : ((i : ℕ) → getD s i 0 < 256) → (verdicts : ℕ) → verdicts ≡ l .«reply_count»
+        → Parts frame (holesPart s l) (repliesPart s l) (samplesPart s l) verdicts
+    is-parts bytes verdicts e =
+        record {
+          ready = ready;
+          stands = stands-start s w h;
+          ticksOfReplies = accepted s w h .replies;
+          count = e ∙ reply-count;
+          few = few-replies parts (omega (arith, bytes (l .«holes_end»), bytes (l .«holes_end» + 1)));
+          unseenFew = totals.summed s w h bytes .small;
+        }
 
-  pub verdicts-are : map (verdictOn (traceOf s w .config) (shown (traceOf s w))) (repliesIn (repliesPart s (w .layout))) ≡ traceVerdicts (traceOf s w)
-  unfolding traceVerdicts
-  verdicts-are = refl
+    -- the totals of the parts are those of the trace
+    totals-are : ((i : ℕ) → getD s i 0 < 256) → summed (l .cells) (holesPart s l) (samplesPart s l) t ≡ totalsAt (shown (traceOf s w)) t
+    totals-are bytes = let z = totals.summed s w h bytes in totals-same (z .sumIn) (z .sumOut) (z .sumUnseen)
+
+    pub report-is : ((i : ℕ) → getD s i 0 < 256) → (buffer : List ℕ) → length buffer ≡ 187
+        → reported (flagsAt (configIn frame) (shown (traceOf s w)) t) (firstsAt (configIn frame) (shown (traceOf s w)) t) (summed (l .cells) (holesPart s l) (samplesPart s l) t) buffer
+        ≡ traceReport (traceOf s w)
+    unfolding traceReport
+    report-is bytes buffer e =
+        let fs = flagsAt (configIn frame) (shown (traceOf s w)) t in
+        let ts = firstsAt (configIn frame) (shown (traceOf s w)) t in
+        written fs ts (summed (l .cells) (holesPart s l) (samplesPart s l) t) buffer e ∙ ap (reportBytes fs ts) (totals-are bytes)
+
+    pub verdicts-are : map (verdictOn (configIn frame) (shown (traceOf s w))) (repliesIn (repliesPart s l)) ≡ traceVerdicts (traceOf s w)
+    unfolding traceVerdicts
+    verdicts-are = refl

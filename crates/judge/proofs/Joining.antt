@@ -14,7 +14,7 @@ use Rattle.states.proofs.RuleWords.{getD-tabulate}
 use borrow.Author.Count.{below-more}
 use Rattle.first_ticks.specs.Tracking.{possibleAt, heldAt}
 use Rattle.demands.specs.Report.{firstsAt}
-use Rattle.judge.specs.Ending.{joined}
+use Rattle.judge.specs.inner.Ending.{joined}
 
 abbrev none : FirstTicks
 none = record { possible = 0; held = 0 }

@@ -15,7 +15,6 @@ use Rattle.trace.specs.Records.{Reply, repliesFrom, repliesIn}
 use Rattle.trace.specs.Coverage.{repliesAnswer}
 use Rattle.refusals.proofs.Answers.{unless}
 use Rattle.trace.proofs.ReplyTurns.{reply-next}
-use Rattle.fillings.specs.Fillings.{Config}
 use Rattle.ticks.proofs.Tests.{or-false}
 use Rattle.ticks.proofs.Places.{place-low}
 use Rattle.verdicts.specs.declared.Tick.{Tick}
@@ -23,22 +22,24 @@ use Rattle.verdicts.specs.declared.Alarms.{Alarms}
 use Rattle.verdicts.specs.Verdicts.{verdictOf}
 use Rattle.demands.specs.Verdicts.{tickOf, alarmsAt, verdictOn}
 use Rattle.judge.specs.declared.replies.Point.{Point}
-use Rattle.judge.specs.Walk.{shows, Known, AtPoint, Reached}
+use Rattle.walk.specs.Places.{shows}
+use Rattle.judge.specs.declared.advance.Frame.{Frame}
+use Rattle.judge.specs.inner.Walk.{configIn, Known, AtPoint, Reached}
 
 -- The replies below number j are judged, and the walk has not passed the next one; `low` is the tick of the last one.
-pub record Judging (p : Config) (holes samples replies : List ℕ) (m : ℕ) (words possible held verdicts : List ℕ) (x : Point) (j : ℕ) : Type 0 where
-  pub there : AtPoint p holes samples m x words possible held
+pub record Judging (f : Frame) (holes samples replies : List ℕ) (words possible held verdicts : List ℕ) (x : Point) (j : ℕ) : Type 0 where
+  pub there : AtPoint f holes samples x words possible held
   pub count : length verdicts ≡ length replies / 10
   pub within : j ≤ length verdicts
   pub low : ℕ
-  pub passed : x .cursor .tick ≤ low + 1
-  pub left : repliesAnswer m (repliesFrom replies (length replies / 10 - j) (j * 10)) j low ≡ answer tt
-  pub judged : map (verdictOn p (shows p samples)) (repliesIn replies) ≡ take j verdicts ++ map (verdictOn p (shows p samples)) (repliesFrom replies (length replies / 10 - j) (j * 10))
+  pub passed : x .stop .cursor .tick ≤ low + 1
+  pub left : repliesAnswer (f .ticks) (repliesFrom replies (length replies / 10 - j) (j * 10)) j low ≡ answer tt
+  pub judged : map (verdictOn (configIn f) (shows (f .cells) samples)) (repliesIn replies) ≡ take j verdicts ++ map (verdictOn (configIn f) (shows (f .cells) samples)) (repliesFrom replies (length replies / 10 - j) (j * 10))
 
-pub judging-start : {p : Config} {holes samples replies : List ℕ} {m : ℕ} {words possible held verdicts : List ℕ} {x : Point} → AtPoint p holes samples m x words possible held
-    → x .cursor .tick ≤ 1 → repliesAnswer m (repliesIn replies) 0 0 ≡ answer tt → length verdicts ≡ length replies / 10
-    → Judging p holes samples replies m words possible held verdicts x 0
-judging-start {p} {samples = samples} {replies} {m} g l a n =
+pub judging-start : {f : Frame} {holes samples replies : List ℕ} {words possible held verdicts : List ℕ} {x : Point} → AtPoint f holes samples x words possible held
+    → x .stop .cursor .tick ≤ 1 → repliesAnswer (f .ticks) (repliesIn replies) 0 0 ≡ answer tt → length verdicts ≡ length replies / 10
+    → Judging f holes samples replies words possible held verdicts x 0
+judging-start {f} {samples = samples} {replies} g l a n =
     let e : length replies / 10 ≡ length replies / 10 - 0 = omega arith in
     record {
       there = g;
@@ -46,23 +47,23 @@ judging-start {p} {samples = samples} {replies} {m} g l a n =
       within = omega arith;
       low = 0;
       passed = omega arith;
-      left = ap (λ (k : ℕ). repliesAnswer m (repliesFrom replies k 0) 0 0) (sym e) ∙ a;
-      judged = ap (λ (k : ℕ). map (verdictOn p (shows p samples)) (repliesFrom replies k 0)) e;
+      left = ap (λ (k : ℕ). repliesAnswer (f .ticks) (repliesFrom replies k 0) 0 0) (sym e) ∙ a;
+      judged = ap (λ (k : ℕ). map (verdictOn (configIn f) (shows (f .cells) samples)) (repliesFrom replies k 0)) e;
     }
 
 -- The verdict from where the walk stands after the reply's tick.
-verdict-here : (p : Config) (holes samples : List ℕ) (m : ℕ) (words possible held : List ℕ) (x : Point) (tick : ℕ) (bytes : List ℕ) → AtPoint p holes samples m x words possible held
-    → x .cursor .tick ≡ suc tick → verdictOf (x .cursor .shown) (x .alarms) bytes ≡ verdictOn p (shows p samples) (record { tick = tick; bytes = bytes })
-verdict-here p holes samples m words possible held x tick bytes g e =
-    ap₂ (λ (t : Tick) (a : Alarms). verdictOf t a bytes) (g .there .stands .last tick e)
-    (g .alarms ∙ ap (alarmsAt p (shows p samples)) e)
+verdict-here : (f : Frame) (holes samples : List ℕ) (words possible held : List ℕ) (x : Point) (tick : ℕ) (bytes : List ℕ) → AtPoint f holes samples x words possible held
+    → x .stop .cursor .tick ≡ suc tick → verdictOf (x .stop .shown) (x .alarms) bytes ≡ verdictOn (configIn f) (shows (f .cells) samples) (record { tick = tick; bytes = bytes })
+verdict-here f holes samples words possible held x tick bytes g e =
+    ap₂ (λ (t : Tick) (a : Alarms). verdictOf t a bytes) (g .there .shown tick e)
+    (g .alarms ∙ ap (alarmsAt (configIn f) (shows (f .cells) samples)) e)
 
-module _ {p : Config} {holes samples replies : List ℕ} {m : ℕ} {words possible held verdicts : List ℕ} {x : Point} {j : ℕ} (g : Judging p holes samples replies m words possible held verdicts x j) where
+module _ {f : Frame} {holes samples replies : List ℕ} {words possible held verdicts : List ℕ} {x : Point} {j : ℕ} (g : Judging f holes samples replies words possible held verdicts x j) where
   abbrev n : ℕ
   n = length replies / 10
 
-  abbrev f : Reply → ℕ
-  f = verdictOn p (shows p samples)
+  abbrev verdict : Reply → ℕ
+  verdict = verdictOn (configIn f) (shows (f .cells) samples)
 
   abbrev reply : Reply
   reply = record { tick = u32At replies (j * 10); bytes = take 6 (drop (j * 10 + 4) replies) }
@@ -76,16 +77,16 @@ module _ {p : Config} {holes samples replies : List ℕ} {m : ℕ} {words possib
   -- the next reply comes after the last one and is covered
   pub record Next : Type 0 where
     pub after : g .low ≤ u32At replies (j * 10)
-    pub covered : u32At replies (j * 10) < m
-    pub later : repliesAnswer m rest (suc j) (u32At replies (j * 10)) ≡ answer tt
+    pub covered : u32At replies (j * 10) < f .ticks
+    pub later : repliesAnswer (f .ticks) rest (suc j) (u32At replies (j * 10)) ≡ answer tt
 
   pub next-reply : j < length verdicts → Next
   unfolding repliesAnswer
   next-reply h =
       let e = reply-next replies (length replies / 10 - j) (j * 10) (some h) in
-      let a : repliesAnswer m (reply ∷ rest) j (g .low) ≡ answer tt = ap (λ (rs : List Reply). repliesAnswer m rs j (g .low)) (sym e) ∙ g .left in
-      let u = unless (ltb (u32At replies (j * 10)) (g .low) || leb m (u32At replies (j * 10))) 10 j _ a in
-      let o = or-false (ltb (u32At replies (j * 10)) (g .low)) (leb m (u32At replies (j * 10))) (u .0) in
+      let a : repliesAnswer (f .ticks) (reply ∷ rest) j (g .low) ≡ answer tt = ap (λ (rs : List Reply). repliesAnswer (f .ticks) rs j (g .low)) (sym e) ∙ g .left in
+      let u = unless (ltb (u32At replies (j * 10)) (g .low) || leb (f .ticks) (u32At replies (j * 10))) 10 j _ a in
+      let o = or-false (ltb (u32At replies (j * 10)) (g .low)) (leb (f .ticks) (u32At replies (j * 10))) (u .0) in
       record { after = ltb-false _ _ (o .0); covered = leb-false _ _ (o .1); later = u .1 }
 
   pub in-replies : j < length verdicts → j * 10 + 10 ≤ length replies
@@ -99,14 +100,14 @@ module _ {p : Config} {holes samples replies : List ℕ} {m : ℕ} {words possib
       ap (λ (i : ℕ). length (take i (drop (j * 10 + 4) replies))) e ∙ length-take-le 6 (drop (j * 10 + 4) replies) k
 
   pub judging-next : j < length verdicts → (to v : ℕ) {words′ possible′ held′ : List ℕ} {x′ : Point} → to ≡ u32At replies (j * 10) + 1
-      → Reached p holes samples m x′ to words′ possible′ held′
-      → v ≡ verdictOf (x′ .cursor .shown) (x′ .alarms) (take (j * 10 + 10 - (j * 10 + 4)) (drop (j * 10 + 4) replies))
-      → Judging p holes samples replies m words′ possible′ held′ (set verdicts j v) x′ (j + 1)
+      → Reached f holes samples x′ to words′ possible′ held′
+      → v ≡ verdictOf (x′ .stop .shown) (x′ .alarms) (take (j * 10 + 10 - (j * 10 + 4)) (drop (j * 10 + 4) replies))
+      → Judging f holes samples replies words′ possible′ held′ (set verdicts j v) x′ (j + 1)
   judging-next h to v {x′ = x′} t r e =
       let six : j * 10 + 10 - (j * 10 + 4) ≡ 6 = omega arith in
-      let tick : x′ .cursor .tick ≡ suc (u32At replies (j * 10)) = r .at ∙ t ∙ add-one _ in
-      let is : v ≡ f reply =
-      e ∙ ap (λ (i : ℕ). verdictOf (x′ .cursor .shown) (x′ .alarms) (take i (drop (j * 10 + 4) replies))) six ∙ verdict-here _ _ _ _ _ _ _ x′ _ _ (r .there) tick in
+      let tick : x′ .stop .cursor .tick ≡ suc (u32At replies (j * 10)) = r .at ∙ t ∙ add-one _ in
+      let is : v ≡ verdict reply =
+      e ∙ ap (λ (i : ℕ). verdictOf (x′ .stop .shown) (x′ .alarms) (take i (drop (j * 10 + 4) replies))) six ∙ verdict-here _ _ _ _ _ _ x′ _ _ (r .there) tick in
       let split = reply-next replies (length replies / 10 - j) (j * 10) (some h) in
       let d : length replies / 10 - j - 1 ≡ length replies / 10 - (j + 1) = omega arith in
       let a : j * 10 + 10 ≡ (j + 1) * 10 = omega arith in
@@ -117,29 +118,29 @@ module _ {p : Config} {holes samples replies : List ℕ} {m : ℕ} {words possib
         within = omega (arith, length-set verdicts j v);
         low = u32At replies (j * 10);
         passed = omega (arith, tick);
-        left = ap₂ (λ (rs : List Reply) (i : ℕ). repliesAnswer m rs i (u32At replies (j * 10))) (sym moved) (add-one j) ∙ next-reply h .later;
+        left = ap₂ (λ (rs : List Reply) (i : ℕ). repliesAnswer (f .ticks) rs i (u32At replies (j * 10))) (sym moved) (add-one j) ∙ next-reply h .later;
         judged =
             g .judged
-            ∙ ap (λ (rs : List Reply). take j verdicts ++ map f rs) split
-            ∙ sym (append-snoc (take j verdicts) (f reply) (map f rest))
-            ∙ ap (λ (y : ℕ). take j verdicts ++ (y ∷ []) ++ map f rest) (sym is)
-            ∙ ap (λ (l : List ℕ). l ++ map f rest) (sym (take-suc-set verdicts j v h) ∙ ap (λ (i : ℕ). take i (set verdicts j v)) (sym (add-one j)))
-            ∙ ap (λ (rs : List Reply). take (j + 1) (set verdicts j v) ++ map f rs) moved;
+            ∙ ap (λ (rs : List Reply). take j verdicts ++ map verdict rs) split
+            ∙ sym (append-snoc (take j verdicts) (verdict reply) (map verdict rest))
+            ∙ ap (λ (y : ℕ). take j verdicts ++ (y ∷ []) ++ map verdict rest) (sym is)
+            ∙ ap (λ (l : List ℕ). l ++ map verdict rest) (sym (take-suc-set verdicts j v h) ∙ ap (λ (i : ℕ). take i (set verdicts j v)) (sym (add-one j)))
+            ∙ ap (λ (rs : List Reply). take (j + 1) (set verdicts j v) ++ map verdict rs) moved;
       }
 
   -- the walk has not passed the last tick
-  pub not-past : x .cursor .tick ≤ m
+  pub not-past : x .stop .cursor .tick ≤ f .ticks
   not-past = place-low _ _ _ (g .there .there .stands .place)
 
-  pub judging-end : length verdicts ≤ j → verdicts ≡ map f (repliesIn replies)
+  pub judging-end : length verdicts ≤ j → verdicts ≡ map verdict (repliesIn replies)
   unfolding repliesFrom
   judging-end h =
       let e : length replies / 10 - j ≡ 0 = omega (arith, g .count) in
       sym
       (g .judged
-      ∙ ap (λ (k : ℕ). take j verdicts ++ map f (repliesFrom replies k (j * 10))) e
+      ∙ ap (λ (k : ℕ). take j verdicts ++ map verdict (repliesFrom replies k (j * 10))) e
       ∙ append-nil (take j verdicts)
       ∙ take-all j verdicts h)
 
-pub known-there : {p : Config} {holes samples : List ℕ} {m : ℕ} {x : Point} {to : ℕ} {words possible held : List ℕ} → Reached p holes samples m x to words possible held → Known p samples to words possible held
-known-there {p} {samples = samples} {words = words} {possible} {held} r = subst (λ (k : ℕ). Known p samples k words possible held) (r .at) (r .there .there .known)
+pub known-there : {f : Frame} {holes samples : List ℕ} {x : Point} {to : ℕ} {words possible held : List ℕ} → Reached f holes samples x to words possible held → Known (configIn f) samples to words possible held
+known-there {f} {samples = samples} {words = words} {possible} {held} r = subst (λ (k : ℕ). Known (configIn f) samples k words possible held) (r .at) (r .there .there .known)

@@ -1,9 +1,9 @@
 pub mod Knowing
 pub mod Readings
-pub mod Standing
-pub mod Walking
+pub mod Advancing
 pub mod Points
 pub mod Judging
 pub mod Joining
 pub mod Ends
+pub mod Buffers
 pub mod AcceptedParts

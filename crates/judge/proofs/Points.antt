@@ -9,17 +9,17 @@ use lib.ListN.{length}
 use borrow.Author.Tests.{eq-eqb}
 use Rattle.refusals.specs.Refusals.{Answer, answer, refused}
 use Rattle.flags.specs.declared.RuleFlags.{RuleFlags}
-use Rattle.fillings.specs.Fillings.{Config}
 use Rattle.states.specs.Readings.{allFlags}
-use Rattle.states.specs.Tracking.{recordAt}
 use Rattle.states.proofs.Tracking.{tracks}
 use Rattle.verdicts.specs.declared.Tick.{Tick}
 use Rattle.verdicts.specs.declared.Alarms.{Alarms}
 use Rattle.verdicts.specs.Verdicts.{verdictOf, verdictAnswer}
 use Rattle.demands.specs.Verdicts.{alarmsAt}
-use Rattle.judge.specs.declared.walk.Cursor.{Cursor}
+use Rattle.walk.specs.Places.{shows}
+use Rattle.judge.specs.declared.advance.Frame.{Frame}
+use Rattle.judge.specs.declared.advance.Stop.{Stop}
 use Rattle.judge.specs.declared.replies.Point.{Point}
-use Rattle.judge.specs.Walk.{shows, At, Arrived, alarmsOf, AtPoint, Reached}
+use Rattle.judge.specs.inner.Walk.{configIn, At, Arrived, alarmsOf, AtPoint, Reached}
 
 six : (tick : Tick) (a : Alarms) (bytes : List ℕ) → length bytes ≡ 6 → verdictAnswer tick a bytes ≡ answer (verdictOf tick a bytes)
 unfolding verdictAnswer
@@ -35,17 +35,17 @@ never-unjudged tick a bytes number place l e f =
     let z : _≡_ {A = ℕ} 0 1 = cc in omega arith
 
 -- The bits, from the record that is known.
-pub alarms-known : {p : Config} {holes samples : List ℕ} {m : ℕ} {c : Cursor} {words possible held : List ℕ} → At p holes samples m c words possible held
-    → (alarms : Alarms) → alarms ≡ alarmsOf (allFlags (p .settings) words) → alarms ≡ alarmsAt p (shows p samples) (c .tick)
-alarms-known {p} {samples = samples} {c = c} g alarms e =
+pub alarms-known : {f : Frame} {holes samples : List ℕ} {x : Stop} {words possible held : List ℕ} → At f holes samples x words possible held
+    → (alarms : Alarms) → alarms ≡ alarmsOf (allFlags (f .settings .of) words) → alarms ≡ alarmsAt (configIn f) (shows (f .cells) samples) (x .cursor .tick)
+alarms-known {f} {samples = samples} {x = x} g alarms e =
     e
-    ∙ ap (λ (ws : List ℕ). alarmsOf (allFlags (p .settings) ws)) (g .known .states)
-    ∙ ap alarmsOf (tracks p (g .stands .short) (shows p samples) .reads (c .tick))
+    ∙ ap (λ (ws : List ℕ). alarmsOf (allFlags (f .settings .of) ws)) (g .known .states)
+    ∙ ap alarmsOf (tracks (configIn f) (g .ready .short) (shows (f .cells) samples) .reads (x .cursor .tick))
 
-pub point-kept : {p : Config} {holes samples : List ℕ} {m : ℕ} {x : Point} {words possible held : List ℕ} (to : ℕ) → AtPoint p holes samples m x words possible held
-    → x .cursor .tick ≤ to → to ≤ x .cursor .tick → Reached p holes samples m x to words possible held
+pub point-kept : {f : Frame} {holes samples : List ℕ} {x : Point} {words possible held : List ℕ} (to : ℕ) → AtPoint f holes samples x words possible held
+    → x .stop .cursor .tick ≤ to → to ≤ x .stop .cursor .tick → Reached f holes samples x to words possible held
 point-kept to g l n = record { there = g; at = omega arith }
 
-pub point-reached : {p : Config} {holes samples : List ℕ} {m : ℕ} {c : Cursor} {to : ℕ} {words possible held : List ℕ} (alarms : Alarms) → Arrived p holes samples m c to words possible held
-    → alarms ≡ alarmsOf (allFlags (p .settings) words) → Reached p holes samples m (record { cursor = c; alarms = alarms }) to words possible held
+pub point-reached : {f : Frame} {holes samples : List ℕ} {x : Stop} {to : ℕ} {words possible held : List ℕ} (alarms : Alarms) → Arrived f holes samples x to words possible held
+    → alarms ≡ alarmsOf (allFlags (f .settings .of) words) → Reached f holes samples (record { stop = x; alarms = alarms }) to words possible held
 point-reached alarms g e = record { there = record { there = g .there; alarms = alarms-known (g .there) alarms e }; at = g .at }

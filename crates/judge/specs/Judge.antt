@@ -1,8 +1,11 @@
--- What the calls answer for any bytes and any buffers.
+-- Paper 01, 'Refusal numbers': the judge's order, 12; 1 to 4; the sections with 5 and 6; 11; 13; 7; 8; 9; 10, and what the call leaves in its buffers.
 use Prim.Native.Nat.{ℕ}
+use mathlib.Core.Bool.{cond}
 use mathlib.Core.List.{List}
+use lib.Dec.{eqb}
 use lib.ListN.{length}
-use Rattle.refusals.specs.Refusals.{Answer, answer, refused, refusal}
+use Rattle.refusals.specs.Refusals.{Answer, answer, refused, refusal, andThen, orKept}
+use Rattle.trace.specs.Sections.{walkAnswer}
 use Rattle.trace.specs.Acceptance.{Parsed, acceptAnswer}
 use Rattle.ticks.specs.Traces.{traceOf}
 use Rattle.demands.specs.Report.{traceReport}
@@ -15,19 +18,20 @@ abbrev pub answerOfJudged : Judged → Answer (Unit {0})
 answerOfJudged Accepted = answer tt
 answerOfJudged (Refused why) = refusal why
 
--- Whether a trace is judged, given the lengths of the report and of the verdict buffer.
-abbrev pub judgeAnswer : Answer Parsed → Answer (Unit {0})
-judgeAnswer (answer w) = answer tt
-judgeAnswer (refused number place) = refused number place
-
--- A buffer afterwards: what an accepted trace puts there, or what it held.
-abbrev pub orKept : Answer Parsed → (Parsed → List ℕ) → List ℕ → List ℕ
-orKept (answer w) f buffer = f w
-orKept (refused number place) f buffer = buffer
+-- The buffers: 12 unless the report has 187 bytes; the walk over the sections; 13 unless there is a verdict for each reply.
+unfoldable pub buffersAnswer : List ℕ → ℕ → ℕ → Answer (Unit {0})
+buffersAnswer s report verdicts =
+    cond (eqb report 187)
+    (andThen (walkAnswer s) (λ l. cond (eqb verdicts (l .«reply_count»)) (answer tt) (refused 13 0)))
+    (refused 12 0)
 
 -- The acceptance of a trace with a report buffer and a verdict buffer.
 abbrev pub acceptance : List ℕ → List ℕ → List ℕ → Answer Parsed
-acceptance s report verdicts = acceptAnswer s (length report) (length verdicts)
+acceptance s report verdicts = andThen (buffersAnswer s (length report) (length verdicts)) (λ fit. acceptAnswer s)
+
+-- Whether a trace is judged.
+abbrev pub judgeAnswer : List ℕ → List ℕ → List ℕ → Answer (Unit {0})
+judgeAnswer s report verdicts = andThen (acceptance s report verdicts) (λ w. answer tt)
 
 -- The report buffer after the call.
 abbrev pub reportAfter : List ℕ → List ℕ → List ℕ → List ℕ

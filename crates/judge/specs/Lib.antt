@@ -1,3 +1,2 @@
 pub mod Judge
-pub mod Walk
-pub mod Ending
+pub mod inner

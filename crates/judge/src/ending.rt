@@ -2,11 +2,10 @@
 ghost use mathlib.Core.Path.{_≡_};
 ghost use Prim.Native.Nat.{_≤_};
 ghost use lib.ListN.{length};
-ghost use Rattle.fillings.specs.Charge.{inward, outward};
 ghost use Rattle.states.specs.Readings.{allFlags};
 ghost use Rattle.report.specs.Layout.{reported};
-ghost use Rattle.totals.specs.Totals.{chargeSum, unseenSum};
-ghost use Rattle.judge.specs.Ending.{joined};
+ghost use Rattle.totals.specs.Totals.{unseenSum};
+ghost use Rattle.judge.specs.inner.Ending.{joined, summed};
 use report::AllFirstTicks;
 use report::FirstTicks;
 use report::Totals;
@@ -34,7 +33,7 @@ fn join_firsts(possible: &[u32], held: &[u32]) -> AllFirstTicks
 
 pub(crate) fn totals_of(holes: &[u8], samples: &[u8], cells: u8, ticks: u32) -> Totals
     requires { ⌜ unseenSum (now holes) ≤ 4294967295 ⌝ }
-    ensures { λ r. ⌜ r ≡ record { «charge_in» = chargeSum inward cells (now (samples .entry)); «charge_out» = chargeSum outward cells (now (samples .entry)); unseen = unseenSum (now (holes .entry)); ticks = ticks } ⌝ }
+    ensures { λ r. ⌜ r ≡ summed cells (now (holes .entry)) (now (samples .entry)) ticks ⌝ }
 {
     let charge = totals::sum_charge(samples, cells);
     let unseen = totals::count_unseen(holes);

@@ -3,21 +3,19 @@ ghost use mathlib.Core.Path.{_≡_};
 ghost use mathlib.Core.List.{map};
 ghost use lib.ListN.{length};
 ghost use Rattle.refusals.specs.Refusals.{answer};
-ghost use Rattle.fillings.specs.Charge.{inward, outward};
 ghost use Rattle.trace.specs.Records.{repliesIn};
 ghost use Rattle.trace.specs.Acceptance.{acceptAnswer};
 ghost use Rattle.report.specs.Layout.{reported};
-ghost use Rattle.totals.specs.Totals.{chargeSum, unseenSum};
 ghost use Rattle.ticks.specs.Traces.{traceOf};
 ghost use Rattle.demands.specs.Report.{flagsAt, firstsAt, traceReport};
 ghost use Rattle.demands.specs.Verdicts.{verdictOn, traceVerdicts};
-ghost use Rattle.judge.specs.Walk.{configOf, shows, startOf, AtPoint};
-ghost use Rattle.judge.specs.Ending.{Parts};
+ghost use Rattle.walk.specs.Places.{shows};
+ghost use Rattle.judge.specs.inner.Walk.{configIn};
+ghost use Rattle.judge.specs.inner.Ending.{Parts, summed};
+use crate::advance::Frame;
 use crate::ending::totals_of;
 use crate::ending::write_end;
-use crate::replies::Config;
-use crate::replies::Point;
-use crate::replies::judge_replies;
+use crate::replies::judge_records;
 use crate::replies::start_at;
 use rules::Settings;
 use trace::Layout;
@@ -26,40 +24,32 @@ fn judge_parts(
     holes: &[u8],
     replies: &[u8],
     samples: &[u8],
-    cells: u8,
-    idle: u16,
-    settings: Settings,
-    ticks: u32,
+    f: Frame,
     report: &mut [u8],
     verdicts: &mut [u8],
 )
-    requires { ⌜ Parts (configOf cells idle (settings .of)) (now holes) (now replies) (now samples) ticks (length (now verdicts)) ⌝ }
-    ensures report { λ _. ⌜ now (report .exit) ≡ reported (flagsAt (configOf cells idle (settings .of)) (shows (configOf cells idle (settings .of)) (now (samples .entry))) ticks) (firstsAt (configOf cells idle (settings .of)) (shows (configOf cells idle (settings .of)) (now (samples .entry))) ticks) (record { «charge_in» = chargeSum inward cells (now (samples .entry)); «charge_out» = chargeSum outward cells (now (samples .entry)); unseen = unseenSum (now (holes .entry)); ticks = ticks }) (now (report .entry)) ⌝ }
-    ensures verdicts { λ _. ⌜ now (verdicts .exit) ≡ map (verdictOn (configOf cells idle (settings .of)) (shows (configOf cells idle (settings .of)) (now (samples .entry)))) (repliesIn (now (replies .entry))) ⌝ }
+    requires { ⌜ Parts f (now holes) (now replies) (now samples) (length (now verdicts)) ⌝ }
+    ensures report { λ _. ⌜ now (report .exit) ≡ reported (flagsAt (configIn f) (shows (f .cells) (now (samples .entry))) (f .ticks)) (firstsAt (configIn f) (shows (f .cells) (now (samples .entry))) (f .ticks)) (summed (f .cells) (now (holes .entry)) (now (samples .entry)) (f .ticks)) (now (report .entry)) ⌝ }
+    ensures verdicts { λ _. ⌜ now (verdicts .exit) ≡ map (verdictOn (configIn f) (shows (f .cells) (now (samples .entry)))) (repliesIn (now (replies .entry))) ⌝ }
 {
     let begun = states::States::begin();
     let mut words = begun.words;
     let mut possible = [0xFFFFFFFFu32; 16];
     let mut held = [0xFFFFFFFFu32; 16];
-    let start = start_at(holes, samples, cells, settings, &words);
-    let config = Config {
-        cells,
-        idle,
-        settings,
-    };
-    judge_replies(
+    let settings = f.settings;
+    let start = start_at(settings, &words);
+    judge_records(
         holes,
         samples,
         replies,
-        config,
-        ticks,
+        f,
         start,
         &mut words,
         &mut possible,
         &mut held,
         verdicts,
     );
-    let totals = totals_of(holes, samples, cells, ticks);
+    let totals = totals_of(holes, samples, f.cells, f.ticks);
     write_end(&words, &possible, &held, settings, totals, report);
 }
 
@@ -72,7 +62,7 @@ pub(crate) fn judge_accepted(
     report: &mut [u8],
     verdicts: &mut [u8],
 )
-    requires { ⌜ acceptAnswer (now s) (length (now report)) (length (now verdicts)) ≡ answer (record { layout = l; settings = settings .of; ticks = ticks }) ⌝ }
+    requires { ⌜ (acceptAnswer (now s) ≡ answer (record { layout = l; settings = settings .of; ticks = ticks })) × (length (now report) ≡ 187) × (length (now verdicts) ≡ l .«reply_count») ⌝ }
     ensures report { λ _. ⌜ now (report .exit) ≡ traceReport (traceOf (now (s .entry)) (record { layout = l; settings = settings .of; ticks = ticks })) ⌝ }
     ensures verdicts { λ _. ⌜ now (verdicts .exit) ≡ traceVerdicts (traceOf (now (s .entry)) (record { layout = l; settings = settings .of; ticks = ticks })) ⌝ }
 {
@@ -81,15 +71,12 @@ pub(crate) fn judge_accepted(
     let p = l.replies;
     let q = l.replies_end;
     let d = l.samples;
-    judge_parts(
-        &s[a..b],
-        &s[p..q],
-        &s[d..],
-        l.cells,
-        l.idle,
-        settings,
+    let f = Frame {
+        cells: l.cells,
+        idle: l.idle,
+        width: trace::sample_width(l.cells),
         ticks,
-        report,
-        verdicts,
-    );
+        settings,
+    };
+    judge_parts(&s[a..b], &s[p..q], &s[d..], f, report, verdicts);
 }

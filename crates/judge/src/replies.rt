@@ -9,9 +9,12 @@ ghost use Rattle.trace.specs.Coverage.{repliesAnswer};
 ghost use Rattle.states.specs.Readings.{allFlags};
 ghost use Rattle.verdicts.specs.Verdicts.{verdictOf};
 ghost use Rattle.demands.specs.Verdicts.{verdictOn};
-ghost use Rattle.judge.specs.Walk.{configIn, shows, alarmsOf, startOf, AtPoint, Reached, Known};
-use crate::walk::Cursor;
-use crate::walk::advance;
+ghost use Rattle.walk.specs.Walk.{startOf};
+ghost use Rattle.walk.specs.Places.{shows};
+ghost use Rattle.judge.specs.inner.Walk.{configIn, alarmsOf, AtPoint, Reached, Known};
+use crate::advance::Frame;
+use crate::advance::Stop;
+use crate::advance::advance;
 use flags::Output;
 use rules::Settings;
 use verdicts::Alarms;
@@ -30,36 +33,20 @@ fn alarms_in(words: &[u64], settings: Settings) -> Alarms
     }
 }
 
-// The head and the rules of a trace.
-pub(crate) struct Config {
-    pub(crate) cells: u8,
-    pub(crate) idle: u16,
-    pub(crate) settings: Settings,
-}
-
 // Where the walk stands, with the bits of BatteryStatus there.
 pub(crate) struct Point {
-    pub(crate) cursor: Cursor,
+    pub(crate) stop: Stop,
     pub(crate) alarms: Alarms,
 }
 
 // Where the walk begins.
-pub(crate) fn start_at(
-    holes: &[u8],
-    samples: &[u8],
-    cells: u8,
-    settings: Settings,
-    words: &[u64],
-) -> Point
-    ensures { λ r. ⌜ r ≡ record { cursor = startOf (now (holes .entry)) (now (samples .entry)) cells; alarms = alarmsOf (allFlags (settings .of) (now (words .entry))) } ⌝ }
+pub(crate) fn start_at(settings: Settings, words: &[u64]) -> Point
+    ensures { λ r. ⌜ r ≡ record { stop = record { cursor = startOf; shown = Tick.Unseen }; alarms = alarmsOf (allFlags (settings .of) (now (words .entry))) } ⌝ }
 {
+    let cursor = walk::start();
     Point {
-        cursor: Cursor {
-            holes_left: holes.len() / 8,
-            hole_at: 0,
-            samples_left: samples.len() / (8 + 4 * (cells as usize)),
-            sample_at: 0,
-            tick: 0,
+        stop: Stop {
+            cursor,
             shown: Tick::Unseen,
         },
         alarms: alarms_in(words, settings),
@@ -70,35 +57,25 @@ pub(crate) fn start_at(
 fn reach(
     holes: &[u8],
     samples: &[u8],
-    config: Config,
+    f: Frame,
     at: Point,
     to: u32,
     words: &mut [u64],
     possible: &mut [u32],
     held: &mut [u32],
 ) -> Point
-    requires { ⌜ ((m : ℕ) × AtPoint (configIn config) (now holes) (now samples) m at (now words) (now possible) (now held) × (at .cursor .tick ≤ to) × (to ≤ m)) ⌝ }
-    ensures { λ r. ⌜ ((m : ℕ) → AtPoint (configIn config) (now (holes .entry)) (now (samples .entry)) m at (now (words .entry)) (now (possible .entry)) (now (held .entry)) → to ≤ m → Reached (configIn config) (now (holes .entry)) (now (samples .entry)) m r to (now (words .exit)) (now (possible .exit)) (now (held .exit))) ⌝ }
+    requires { ⌜ AtPoint f (now holes) (now samples) at (now words) (now possible) (now held) × (at .stop .cursor .tick ≤ to) × (to ≤ f .ticks) ⌝ }
+    ensures { λ r. ⌜ Reached f (now (holes .entry)) (now (samples .entry)) r to (now (words .exit)) (now (possible .exit)) (now (held .exit)) ⌝ }
 {
-    let c = at.cursor;
+    let stop = at.stop;
+    let c = stop.cursor;
     if to <= c.tick {
         return at;
     }
-    let settings = config.settings;
-    let cursor = advance(
-        holes,
-        samples,
-        config.cells,
-        config.idle,
-        settings,
-        c,
-        to,
-        words,
-        possible,
-        held,
-    );
+    let settings = f.settings;
+    let stop = advance(holes, samples, f, stop, to, words, possible, held);
     Point {
-        cursor,
+        stop,
         alarms: alarms_in(words, settings),
     }
 }
@@ -119,34 +96,33 @@ fn verdict_on(shown: Tick, alarms: Alarms, reply: &[u8]) -> u8
     }
 }
 
-// Judges the replies, each after its own tick's evaluations, and walks on to the last tick.
-pub(crate) fn judge_replies(
+// Walks over the records: judges each reply after its own tick's evaluations, and goes on to the last tick.
+pub(crate) fn judge_records(
     holes: &[u8],
     samples: &[u8],
     replies: &[u8],
-    config: Config,
-    ticks: u32,
+    f: Frame,
     start: Point,
     words: &mut [u64],
     possible: &mut [u32],
     held: &mut [u32],
     verdicts: &mut [u8],
 )
-    requires { ⌜ AtPoint (configIn config) (now holes) (now samples) ticks start (now words) (now possible) (now held) × (start .cursor .tick ≤ 1) × (repliesAnswer ticks (repliesIn (now replies)) 0 0 ≡ answer tt) × (length (now verdicts) ≡ length (now replies) / 10) × (length (now replies) ≤ 655350) ⌝ }
-    ensures known { λ _. ⌜ Known (configIn config) (now (samples .entry)) ticks (now (words .exit)) (now (possible .exit)) (now (held .exit)) ⌝ }
-    ensures verdicts { λ _. ⌜ now (verdicts .exit) ≡ map (verdictOn (configIn config) (shows (configIn config) (now (samples .entry)))) (repliesIn (now (replies .entry))) ⌝ }
+    requires { ⌜ AtPoint f (now holes) (now samples) start (now words) (now possible) (now held) × (start .stop .cursor .tick ≤ 1) × (repliesAnswer (f .ticks) (repliesIn (now replies)) 0 0 ≡ answer tt) × (length (now verdicts) ≡ length (now replies) / 10) × (length (now replies) ≤ 655350) ⌝ }
+    ensures known { λ _. ⌜ Known (configIn f) (now (samples .entry)) (f .ticks) (now (words .exit)) (now (possible .exit)) (now (held .exit)) ⌝ }
+    ensures verdicts { λ _. ⌜ now (verdicts .exit) ≡ map (verdictOn (configIn f) (shows (f .cells) (now (samples .entry)))) (repliesIn (now (replies .entry))) ⌝ }
 {
     let mut x = start;
     let mut j: usize = 0;
     while j < verdicts.len() {
         let at = j * 10;
         let to = bytes_le::u32_at(replies, at) + 1;
-        x = reach(holes, samples, config, x, to, words, possible, held);
-        let c = x.cursor;
-        let shown = c.shown;
+        x = reach(holes, samples, f, x, to, words, possible, held);
+        let stop = x.stop;
+        let shown = stop.shown;
         let alarms = x.alarms;
         verdicts[j] = verdict_on(shown, alarms, &replies[at + 4..at + 10]);
         j += 1;
     }
-    reach(holes, samples, config, x, ticks, words, possible, held);
+    reach(holes, samples, f, x, f.ticks, words, possible, held);
 }

@@ -24,7 +24,7 @@ use sections::Sectioned;
 use sections::check_head;
 use sections::check_rule_count;
 use sections::read_section;
-use sections::sample_width;
+pub use sections::sample_width;
 
 // Where the sections of a trace lie. The rules are the bytes 6 to 165.
 pub struct Layout {

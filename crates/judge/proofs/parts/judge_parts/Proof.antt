@@ -14,20 +14,20 @@ slice-aggregate-start-at c = search needs
 start-at-requires : tie.Need-start-at-requires
 start-at-requires c κs = search needs
 
-slice-aggregate-judge-replies : tie.Need-slice-aggregate-judge-replies
-slice-aggregate-judge-replies c = search needs
+slice-aggregate-judge-records : tie.Need-slice-aggregate-judge-records
+slice-aggregate-judge-records c = search needs
 
-slice-aggregate-judge-replies-2 : tie.Need-slice-aggregate-judge-replies-2
-slice-aggregate-judge-replies-2 c = search needs
+slice-aggregate-judge-records-2 : tie.Need-slice-aggregate-judge-records-2
+slice-aggregate-judge-records-2 c = search needs
 
-slice-aggregate-judge-replies-3 : tie.Need-slice-aggregate-judge-replies-3
-slice-aggregate-judge-replies-3 c = search needs
+slice-aggregate-judge-records-3 : tie.Need-slice-aggregate-judge-records-3
+slice-aggregate-judge-records-3 c = search needs
 
-judge-replies-requires : tie.Need-judge-replies-requires
-judge-replies-requires c κs =
-    let g = c .before .before .before .before .before .before .before .before .before .before .before .before .before .pre in
+judge-records-requires : tie.Need-judge-records-requires
+judge-records-requires c κs =
+    let g = c .before .before .before .before .before .before .before .before .before .before .before .before .before .before .pre in
     let e = c .before .before .before .before .start-at .ensures in
-    (point-start g _ _ _ (c .before .before .before .before .before .before .before .begin .ensures) refl e, rw e (omega arith), g .ticksOfReplies, g .count, g .few)
+    (point-start g _ _ _ (c .before .before .before .before .before .before .before .before .begin .ensures) refl e, rw e (omega arith), g .ticksOfReplies, g .count, g .few)
 
 totals-of-requires : tie.Need-totals-of-requires
 totals-of-requires c κs = search needs
@@ -52,8 +52,8 @@ same-length-2 c = search needs
 
 returns : tie.Need-returns
 returns c =
-    let r = c .before .before .before .before .before .before .before .before .before .before .before .before .before .judge-replies .ensures in
-    (report-end (c .before .before .before .before .before .before .before .before .before .before .before .before .before .before .before .before .before .before .before .before .before .before .before .before .before .before .before .pre) _ _ _ (r .0) (c .before .before .before .before .before .before .before .totals-of .ensures) (c .before .before .write-end .ensures), r .1)
+    let r = c .before .before .before .before .before .before .before .before .before .before .before .before .before .judge-records .ensures in
+    (report-end (c .before .before .before .before .before .before .before .before .before .before .before .before .before .before .before .before .before .before .before .before .before .before .before .before .before .before .before .before .pre) _ _ _ (r .0) (c .before .before .before .before .before .before .before .totals-of .ensures) (c .before .before .write-end .ensures), r .1)
 
 pub judge-parts-spec : {M : Type 1} → statement M
 judge-parts-spec =
@@ -62,10 +62,10 @@ judge-parts-spec =
     begin-requires
     slice-aggregate-start-at
     start-at-requires
-    slice-aggregate-judge-replies
-    slice-aggregate-judge-replies-2
-    slice-aggregate-judge-replies-3
-    judge-replies-requires
+    slice-aggregate-judge-records
+    slice-aggregate-judge-records-2
+    slice-aggregate-judge-records-3
+    judge-records-requires
     totals-of-requires
     slice-aggregate-write-end
     slice-aggregate-write-end-2

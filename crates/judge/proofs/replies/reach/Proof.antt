@@ -5,8 +5,8 @@ use Rattle.judge.proofs.replies.reach.Tie as tie
 
 returns : tie.Need-returns
 returns c =
-    let pre = c .before .before .before .before .before .before .before .before .pre in
-    λ m g n. point-kept _ g (pre .2) (c .if1 .taken)
+    let pre = c .before .before .before .before .before .before .before .before .before .pre in
+    point-kept _ (pre .0) (pre .1) (c .if1 .taken)
 
 advance-requires : tie.Need-advance-requires
 advance-requires c κs = search needs
@@ -24,7 +24,7 @@ same-length-3 : tie.Need-same-length-3
 same-length-3 c = search needs
 
 returns-2 : tie.Need-returns-2
-returns-2 c = λ m g n. point-reached _ (c .before .before .before .before .before .before .before .before .advance .ensures m (g .there) n) (c .alarms-in .ensures)
+returns-2 c = point-reached _ (c .before .before .before .before .before .before .before .before .advance .ensures) (c .alarms-in .ensures)
 
 pub reach-spec : {M : Type 1} → statement M
 reach-spec =

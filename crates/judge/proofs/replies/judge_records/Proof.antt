@@ -3,18 +3,17 @@ use mathlib.Core.Path.{sym, ap, _∙_}
 use native.Mathlib.Omega.{arith}
 use lib.ListN.{length, length-set}
 use borrow.Author.Needs.{needs}
-use Rattle.judge.specs.Walk.{configIn}
 use Rattle.judge.proofs.Knowing.{long, sixteen, sixteen-held}
 use Rattle.judge.proofs.Judging.{Judging, judging-start, next-reply, in-replies, six-bytes, judging-next, not-past, judging-end, known-there}
-use Rattle.judge.proofs.replies.judge_replies.Statement.{statement}
-use Rattle.judge.proofs.replies.judge_replies.Tie as tie
+use Rattle.judge.proofs.replies.judge_records.Statement.{statement}
+use Rattle.judge.proofs.replies.judge_records.Tie as tie
 
 abbrev Inv-loop : tie.InvT-loop
-Inv-loop holes samples replies config ticks words₀ possible₀ held₀ verdicts₀ x₀ j₀ words possible held verdicts x j =
-    Judging (configIn config) holes samples replies ticks words possible held verdicts x j
+Inv-loop holes samples replies f words₀ possible₀ held₀ verdicts₀ x₀ j₀ words possible held verdicts x j =
+    Judging f holes samples replies words possible held verdicts x j
 
 abbrev μ-loop : tie.MeasureT-loop
-μ-loop holes samples replies config ticks words₀ possible₀ held₀ verdicts₀ x₀ j₀ words possible held verdicts x j =
+μ-loop holes samples replies f words₀ possible₀ held₀ verdicts₀ x₀ j₀ words possible held verdicts x j =
     length verdicts - j
 
 loop-holds : tie.Need-loop-holds Inv-loop μ-loop
@@ -39,7 +38,7 @@ reach-requires : tie.Need-reach-requires Inv-loop μ-loop
 reach-requires c κs =
     let l = c .before .before .before .before .before in
     let r = next-reply (l .loop .inv) (c .before .before .before .before .loop-test .taken) in
-    (_, l .loop .inv .there, omega (arith, c .before .before .before .u32-at .ensures, r .after, l .loop .inv .passed), omega (arith, c .before .before .before .u32-at .ensures, r .covered))
+    (l .loop .inv .there, omega (arith, c .before .before .before .u32-at .ensures, r .after, l .loop .inv .passed), omega (arith, c .before .before .before .u32-at .ensures, r .covered))
 
 add-verdict-on : tie.Need-add-verdict-on Inv-loop μ-loop
 add-verdict-on c =
@@ -93,17 +92,17 @@ loop-again c =
     let l = c .before .before .before .before .before .before .before .before .before .before .before .before .before .before .before .before in
     let u = c .before .before .before .before .before .before .before .before .before .before .before .before .before .before .u32-at .ensures in
     let r = next-reply (l .loop .inv) (c .before .before .before .before .before .before .before .before .before .before .before .before .before .before .before .loop-test .taken) in
-    judging-next (l .loop .inv) (c .before .before .before .before .before .before .before .before .before .before .before .before .before .before .before .loop-test .taken) _ _ (ap (λ (k : ℕ). k + 1) u) (c .before .before .before .before .before .before .before .before .before .before .reach .ensures _ (l .loop .inv .there) (omega (arith, u, r .covered))) (c .verdict-on .ensures)
+    judging-next (l .loop .inv) (c .before .before .before .before .before .before .before .before .before .before .before .before .before .before .before .loop-test .taken) _ _ (ap (λ (k : ℕ). k + 1) u) (c .before .before .before .before .before .before .before .before .before .before .reach .ensures) (c .verdict-on .ensures)
 
 reach-requires-2 : tie.Need-reach-requires-2 Inv-loop μ-loop
 reach-requires-2 c κs =
     let i = c .before .before .before .before .loop .inv in
-    (_, i .there, not-past i, omega arith)
+    (i .there, not-past i, omega arith)
 
 returns : tie.Need-returns Inv-loop μ-loop
 returns c =
     let i = c .before .before .before .before .before .before .before .before .before .before .before .loop .inv in
-    (known-there (c .before .before .before .before .before .before .reach2 .ensures _ (i .there) (omega arith)), judging-end i (c .before .before .before .before .before .before .before .before .before .before .loop-test .left))
+    (known-there (c .before .before .before .before .before .before .reach2 .ensures), judging-end i (c .before .before .before .before .before .before .before .before .before .before .loop-test .left))
 
 same-length : tie.Need-same-length Inv-loop μ-loop
 same-length c = long (returns c .0) ∙ sym (long (c .before .before .before .before .before .before .before .before .before .before .before .before .before .before .before .before .before .before .before .pre .0 .there .known))
@@ -117,8 +116,8 @@ same-length-3 c = sixteen-held (returns c .0) ∙ sym (sixteen-held (c .before .
 same-length-4 : tie.Need-same-length-4 Inv-loop μ-loop
 same-length-4 c = c .before .before .before .before .before .before .before .before .before .before .before .loop .inv .count ∙ sym (c .before .before .before .before .before .before .before .before .before .before .before .before .before .before .before .before .before .before .before .pre .3)
 
-pub judge-replies-spec : {M : Type 1} → statement M
-judge-replies-spec =
+pub judge-records-spec : {M : Type 1} → statement M
+judge-records-spec =
     tie.close
     (tie.spec
     Inv-loop
