@@ -21,13 +21,14 @@ use Rattle.flags.specs.declared.RuleFlags.{RuleFlags}
 use Rattle.report.specs.declared.FirstTicks.{FirstTicks}
 use Rattle.report.specs.declared.Totals.{Totals}
 use Rattle.report.specs.Layout.{reportBytes, reported}
+use Rattle.fillings.specs.Flags.{flagsAt}
 use Rattle.fillings.specs.Charge.{inward, outward}
 use Rattle.totals.specs.Totals.{chargeSum, unseenSum}
 use Rattle.totals.proofs.AcceptedTotals.{summed}
 use Rattle.ticks.specs.Traces.{traceOf, shown}
 use Rattle.ticks.proofs.AcceptedBytes.{accepted, inverted, short-times}
 use Rattle.ticks.proofs.Places.{place-start}
-use Rattle.demands.specs.Report.{flagsAt, firstsAt, totalsAt, traceReport}
+use Rattle.demands.specs.Report.{firstsAt, totalsAt, traceReport}
 use Rattle.demands.specs.Verdicts.{verdictOn, traceVerdicts}
 use Rattle.judge.specs.Walk.{configOf, shows, startOf, Stands}
 use Rattle.judge.specs.Ending.{Parts}

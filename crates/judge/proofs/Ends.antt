@@ -8,12 +8,13 @@ use Rattle.report.specs.declared.Totals.{Totals}
 use Rattle.report.specs.Layout.{reported}
 use Rattle.fillings.specs.Fillings.{Config}
 use Rattle.fillings.specs.PossibleStates.{tabulate}
+use Rattle.fillings.specs.Flags.{flagsAt}
 use Rattle.states.specs.Records.{fresh}
 use Rattle.states.specs.Readings.{allFlags}
 use Rattle.states.specs.Tracking.{ShortTimes}
 use Rattle.states.proofs.Tracking.{tracks}
 use Rattle.first_ticks.specs.Firsts.{none}
-use Rattle.demands.specs.Report.{flagsAt, firstsAt}
+use Rattle.demands.specs.Report.{firstsAt}
 use Rattle.judge.specs.declared.replies.Point.{Point}
 use Rattle.judge.specs.Walk.{shows, startOf, alarmsOf, Known, At, AtPoint}
 use Rattle.judge.specs.Ending.{joined, Parts}
