@@ -24,7 +24,6 @@ use Rattle.trace.specs.Coverage.{repliesAnswer}
 use Rattle.refusals.proofs.Answers.{unless}
 use Rattle.fillings.specs.PossibleStates.{tabulate}
 use Rattle.fillings.specs.Flags.{statusFlag}
-use Rattle.fillings.proofs.Demand3.{judged}
 use Rattle.fillings.proofs.Witness.{blank, blank-carried}
 use Rattle.ticks.specs.Traces.{Trace, traceOf, shown, Accepted}
 use Rattle.ticks.proofs.AcceptedBytes.{accepted}
@@ -36,7 +35,7 @@ use Rattle.demands.specs.Demand3.{outputAt}
 use Rattle.demands.specs.Demand2.{runState, runActive, runOutput, runVerdict, RunJudged, TotalsJudged, Demand2}
 use Rattle.demands.proofs.ReportReads.{report-long, report-in, report-out, report-unseen, report-ticks}
 use Rattle.demands.proofs.TotalBounds.{Currents, currents, ticks-fit, unseen-fit, in-fits, out-fits}
-use Rattle.demands.proofs.FillingsOfTrace.{always}
+use Rattle.demands.proofs.FillingsOfTrace.{rule-known, always}
 use Rattle.demands.proofs.CutReads.{tabulate-same, charge-at, discharge-at, fuse-at}
 use Rattle.demands.proofs.Demand3.{first-alike, active-of, rule-judged}
 use Rattle.demands.proofs.OneRun.{ticks-are, one-run}
@@ -100,10 +99,10 @@ module _ (tr : Trace) (ok : Accepted tr) (none : tr .holes ≡ []) where
 
   status-sure : (i t : ℕ) → i < 16 → t < tr .ticks → statusFlag (ruleIn tr i) (shown tr) (suc t) ≡ sureFlag (runActive tr i t)
   status-sure i t h l =
-      let j = judged (ruleIn tr i) (ok .rules i h) (shown tr) (tr .ticks) in
+      let j = rule-known tr ok i h in
       by-test (runActive tr i t) _ Held Clear
-      (λ u. j .statusHeld t .1 (always tr ok i t (active-of tr i) (run-every i t l (active-of tr i) u)))
-      (λ u. j .statusClear t .1 (always tr ok i t (λ s. not (active-of tr i s)) (run-every i t l (λ s. not (active-of tr i s)) u)))
+      (λ u. j .statusHeld (suc t) .1 (always tr ok i t (active-of tr i) (run-every i t l (active-of tr i) u)))
+      (λ u. j .statusClear (suc t) .1 (always tr ok i t (λ s. not (active-of tr i s)) (run-every i t l (λ s. not (active-of tr i s)) u)))
 
   output-run : (o : Output) (t : ℕ) → t < tr .ticks → outputAt tr o t ≡ runOutput tr o t
   output-run o t l =

@@ -15,8 +15,7 @@ use Rattle.flags.specs.declared.Output.{Output}
 use Rattle.flags.specs.Flags.{numberOf}
 use Rattle.flags.specs.Outputs.{drivers, activeOf}
 use Rattle.fillings.specs.Fillings.{last}
-use Rattle.fillings.specs.Demand3.{First, Judged, OutputSound}
-use Rattle.fillings.proofs.Demand3.{judged}
+use Rattle.fillings.specs.Demand3.{First, OutputSound}
 use Rattle.fillings.proofs.Outputs.{output-sound}
 use Rattle.fillings.proofs.Charge.{charge-bounded}
 use Rattle.ticks.specs.Traces.{Trace, traceOf, shown, inHole, Accepted}
@@ -25,7 +24,7 @@ use Rattle.demands.specs.Reading.{ruleIn, Fills, stateUnder, SureAt}
 use Rattle.demands.specs.Demand3.{RuleJudged, activeUnder, OutputsJudged, leastNet, greatestNet, ChargeJudged, TraceJudged, Demand3}
 use Rattle.demands.proofs.ReportReads.{report-possible, report-held}
 use Rattle.demands.proofs.TotalBounds.{ticks-fit}
-use Rattle.demands.proofs.FillingsOfTrace.{within, within-fills, within-alike, filling-fills, after-within, net-within, every, always, some, sometimes, sure-at, sure}
+use Rattle.demands.proofs.FillingsOfTrace.{rule-known, within, within-fills, within-alike, filling-fills, after-within, net-within, every, always, some, sometimes, sure-at, sure}
 use Rattle.demands.proofs.EndReads.{end-judged}
 use Rattle.demands.proofs.CutReads.{tabulate-same, alert-at, status-at, charge-at, discharge-at, fuse-at}
 
@@ -65,29 +64,26 @@ abbrev pub active-of : Trace → ℕ → ℕ → Bool
 active-of tr i = status (last (ruleIn tr i))
 
 module _ (tr : Trace) (ok : Accepted tr) where
-  rule-known : (i : ℕ) → i < 16 → Judged (ruleIn tr i) (shown tr) (tr .ticks)
-  rule-known i h = judged (ruleIn tr i) (ok .rules i h) (shown tr) (tr .ticks)
-
   -- Fillings that are alike after a sure tick agree from there on.
   onwards : (i : ℕ) → i < 16 → (t : ℕ) → SureAt tr i t → (f g : ℕ → Sample) → Fills tr f → Fills tr g
       → ((u : ℕ) → t < u → T (inHole (tr .holes) u) → f u ≡ g u) → (u : ℕ) → t ≤ u → u < tr .ticks → stateUnder tr i f u ≡ stateUnder tr i g u
   onwards i h t same f g hf hg alike u low l =
-      let (e, a, s) = rule-known i h .sureOnwards t (sure tr ok i t same) (within tr f) (within tr g) (within-fills tr f hf) (within-fills tr g hg) (λ v k z. within-alike tr f g v (alike v k)) u low in
+      let (e, a, s) = rule-known tr ok i h .sureOnwards t (sure tr ok i t same) (within tr f) (within tr g) (within-fills tr f hf) (within-fills tr g hg) (λ v k z. within-alike tr f g v (alike v k)) u low in
       after-within tr ok (ruleIn tr i) f (suc u) l ∙ e ∙ sym (after-within tr ok (ruleIn tr i) g (suc u) l)
 
   pub rule-judged : (i : ℕ) → i < 16 → RuleJudged tr i
   rule-judged i h =
-      let j = rule-known i h in
+      let j = rule-known tr ok i h in
       let m = ticks-fit tr ok in
       record {
-        alertHeld = λ t l. reads-held _ (alert-at tr ok t i h) (j .alertHeld t) (every tr ok i t alert l) (always tr ok i t alert);
-        alertClear = λ t l. reads-clear _ (alert-at tr ok t i h) (j .alertClear t) (every tr ok i t (λ s. not (alert s)) l) (always tr ok i t (λ s. not (alert s)));
-        alertUnknown = λ t l. reads-unknown _ (alert-at tr ok t i h) (j .alertUnknown t)
+        alertHeld = λ t l. reads-held _ (alert-at tr ok t i h) (j .alertHeld (suc t)) (every tr ok i t alert l) (always tr ok i t alert);
+        alertClear = λ t l. reads-clear _ (alert-at tr ok t i h) (j .alertClear (suc t)) (every tr ok i t (λ s. not (alert s)) l) (always tr ok i t (λ s. not (alert s)));
+        alertUnknown = λ t l. reads-unknown _ (alert-at tr ok t i h) (j .alertUnknown (suc t))
             (λ w. (some tr ok i t alert (w .0), some tr ok i t (λ s. not (alert s)) (w .1)))
             (λ w. (sometimes tr ok i t alert l (w .0), sometimes tr ok i t (λ s. not (alert s)) l (w .1)));
-        statusHeld = λ t l. reads-held _ (status-at tr ok t i h) (j .statusHeld t) (every tr ok i t (active-of tr i) l) (always tr ok i t (active-of tr i));
-        statusClear = λ t l. reads-clear _ (status-at tr ok t i h) (j .statusClear t) (every tr ok i t (λ s. not (active-of tr i s)) l) (always tr ok i t (λ s. not (active-of tr i s)));
-        statusUnknown = λ t l. reads-unknown _ (status-at tr ok t i h) (j .statusUnknown t)
+        statusHeld = λ t l. reads-held _ (status-at tr ok t i h) (j .statusHeld (suc t)) (every tr ok i t (active-of tr i) l) (always tr ok i t (active-of tr i));
+        statusClear = λ t l. reads-clear _ (status-at tr ok t i h) (j .statusClear (suc t)) (every tr ok i t (λ s. not (active-of tr i s)) l) (always tr ok i t (λ s. not (active-of tr i s)));
+        statusUnknown = λ t l. reads-unknown _ (status-at tr ok t i h) (j .statusUnknown (suc t))
             (λ w. (some tr ok i t (active-of tr i) (w .0), some tr ok i t (λ s. not (active-of tr i s)) (w .1)))
             (λ w. (sometimes tr ok i t (active-of tr i) l (w .0), sometimes tr ok i t (λ s. not (active-of tr i s)) l (w .1)));
         firstSome = rw (report-possible tr i h m) (first-alike _ _ (λ t l. some tr ok i t (active-of tr i)) (λ t l. sometimes tr ok i t (active-of tr i) l) (j .firstSome));

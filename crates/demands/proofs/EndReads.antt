@@ -8,23 +8,23 @@ use lib.Dec.{T}
 use borrow.Author.Tests.{lt-ltb, ne-eqb}
 use Rattle.rules.specs.declared.Row.{Row}
 use Rattle.rules.specs.Table.{rows}
-use Rattle.rules.specs.Evaluation.{alert, status}
+use Rattle.rules.specs.Evaluation.{status}
 use Rattle.flags.specs.declared.Flag.{Flag}
 use Rattle.flags.specs.declared.Flag.the-variants.{Clear}
 use Rattle.flags.specs.declared.Output.{Output}
 use Rattle.flags.specs.declared.Output.the-variants.{ChargeOpen, DischargeOpen, Fuse}
-use Rattle.flags.specs.Flags.{numberOf, withNext}
+use Rattle.flags.specs.Flags.{withNext}
 use Rattle.flags.specs.Outputs.{drivers, outputOf}
 use Rattle.fillings.specs.Fillings.{last, after}
 use Rattle.fillings.specs.PossibleStates.{tabulate}
 use Rattle.fillings.specs.Flags.{alertFlag, statusFlag}
 use Rattle.fillings.specs.Outputs.{output}
-use Rattle.fillings.proofs.Flags.{clear-exactly}
 use Rattle.ticks.specs.Traces.{Trace, shown, Accepted}
 use Rattle.ticks.proofs.Cuts.{cut-holds}
 use Rattle.demands.specs.Reading.{ruleIn}
 use Rattle.demands.specs.Demand3.{EndJudged}
 use Rattle.demands.proofs.ReportReads.{report-alert, report-status, report-charge, report-discharge, report-fuse}
+use Rattle.demands.proofs.FillingsOfTrace.{rule-known}
 use Rattle.demands.proofs.CutReads.{tabulate-same}
 
 -- In state 0 no status is active.
@@ -46,11 +46,11 @@ all-clear drives (row ∷ rs) (suc n) = with-clear (drives row) _ (all-clear dri
 module _ (tr : Trace) (ok : Accepted tr) where
   alert-start : (i : ℕ) → i < 16 → alertFlag (ruleIn tr i) (shown tr) 0 ≡ Clear
   unfolding after
-  alert-start i h = clear-exactly (ruleIn tr i) (ok .rules i h) (shown tr) 0 alert .1 (λ f fills. tt)
+  alert-start i h = rule-known tr ok i h .alertClear 0 .1 (λ f fills. tt)
 
   status-start : (i : ℕ) → i < 16 → statusFlag (ruleIn tr i) (shown tr) 0 ≡ Clear
   unfolding after
-  status-start i h = clear-exactly (ruleIn tr i) (ok .rules i h) (shown tr) 0 (status (last (ruleIn tr i))) .1 (λ f fills. inactive (last (ruleIn tr i)))
+  status-start i h = rule-known tr ok i h .statusClear 0 .1 (λ f fills. inactive (last (ruleIn tr i)))
 
   output-start : (o : Output) → output (drivers o) (tr .config) (shown tr) 0 ≡ Clear
   output-start o = ap (outputOf (drivers o) rows) (tabulate-same 16 _ (λ i. Clear) status-start) ∙ all-clear (drivers o) rows 16

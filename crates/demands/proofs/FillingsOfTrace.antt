@@ -11,9 +11,10 @@ use Rattle.rules.specs.Evaluation.{evaluated}
 use Rattle.trace.specs.Records.{Stamped}
 use Rattle.fillings.specs.Fillings.{Rule, Shown, seen, unseen, Filling, filled, evaluate, after}
 use Rattle.fillings.specs.Charge.{netCharge}
-use Rattle.fillings.specs.Demand3.{Always, Sometimes, Sure}
+use Rattle.fillings.specs.Demand3.{Always, Sometimes, Sure, Judged}
 use Rattle.fillings.proofs.Bools.{is-true}
 use Rattle.fillings.proofs.Witness.{blank, blank-carried}
+use Rattle.fillings.proofs.Demand3.{judged}
 use Rattle.ticks.specs.Traces.{Trace, shown, shownIn, hasSample, inHole, Accepted}
 use Rattle.ticks.specs.Promises.{CoveredOnce}
 use Rattle.ticks.proofs.Tests.{by-order}
@@ -70,6 +71,9 @@ within-alike tr f g t h = go (inHole (tr .holes) t) h
     go false h = refl
 
 module _ (tr : Trace) (ok : Accepted tr) where
+  pub rule-known : (i : ℕ) → i < 16 → Judged (ruleIn tr i) (shown tr) (tr .ticks)
+  rule-known i h = judged (ruleIn tr i) (ok .rules i h) (shown tr) (tr .ticks)
+
   once : CoveredOnce tr
   once = covered-once tr ok
 

@@ -17,7 +17,7 @@ use Rattle.report.specs.declared.Totals.{Totals}
 use Rattle.report.specs.Bytes.{bytesOf}
 use Rattle.report.specs.Layout.{ruleBytes, rulesBytes, outputBytes, totalBytes, reportBytes}
 use Rattle.fillings.specs.PossibleStates.{tabulate}
-use Rattle.fillings.specs.Flags.{alertFlag, statusFlag, firstFrom, firstPossible, firstHeld}
+use Rattle.fillings.specs.Flags.{ruleFlags, alertFlag, statusFlag, firstFrom, firstPossible, firstHeld}
 use Rattle.fillings.specs.Outputs.{output}
 use Rattle.fillings.specs.Charge.{chargeIn, chargeOut, unseenTicks}
 use Rattle.ticks.specs.Traces.{Trace, shown}
@@ -161,7 +161,7 @@ first-small i (suc n) test h = go (test i) (first-small (suc i) n test (omega ar
 -- The report of a trace.
 module _ (tr : Trace) where
   abbrev flagsOf : ℕ → RuleFlags
-  flagsOf i = record { alert = alertFlag (ruleIn tr i) (shown tr) (tr .ticks); status = statusFlag (ruleIn tr i) (shown tr) (tr .ticks) }
+  flagsOf i = ruleFlags (ruleIn tr i) (shown tr) (tr .ticks)
 
   abbrev firstsOf : ℕ → FirstTicks
   firstsOf i = record { possible = firstPossible (ruleIn tr i) (shown tr) (tr .ticks); held = firstHeld (ruleIn tr i) (shown tr) (tr .ticks) }

@@ -1,20 +1,14 @@
 -- Paper 01, 'Three-way outputs': the report of a trace.
 use Prim.Native.Nat.{ℕ}
 use mathlib.Core.List.{List}
-use Rattle.flags.specs.declared.RuleFlags.{RuleFlags}
 use Rattle.report.specs.declared.FirstTicks.{FirstTicks}
 use Rattle.report.specs.declared.Totals.{Totals}
 use Rattle.report.specs.Layout.{reportBytes}
 use Rattle.fillings.specs.Fillings.{Shown, Config, ruleOf}
 use Rattle.fillings.specs.PossibleStates.{tabulate}
-use Rattle.fillings.specs.Flags.{alertFlag, statusFlag, firstPossible, firstHeld}
+use Rattle.fillings.specs.Flags.{flagsAt, firstPossible, firstHeld}
 use Rattle.fillings.specs.Charge.{chargeIn, chargeOut, unseenTicks}
 use Rattle.ticks.specs.Traces.{Trace, shown}
-
--- The flags of all rules once the first k ticks have passed.
-abbrev pub flagsAt : Config → (ℕ → Shown) → ℕ → List RuleFlags
-flagsAt p trace k =
-    tabulate 16 (λ i. record { alert = alertFlag (ruleOf p i) trace k; status = statusFlag (ruleOf p i) trace k })
 
 -- The first ticks of all rules among the first k.
 abbrev pub firstsAt : Config → (ℕ → Shown) → ℕ → List FirstTicks

@@ -13,12 +13,12 @@ pub judged : (r : Rule) → Sound r → (trace : ℕ → Shown) (ticks : ℕ) �
 judged r ok trace ticks =
     record {
       exact = E.exact r ok trace;
-      alertHeld = λ t. held-exactly r ok trace (suc t) alert;
-      alertClear = λ t. clear-exactly r ok trace (suc t) alert;
-      alertUnknown = λ t. unknown-exactly r ok trace (suc t) alert;
-      statusHeld = λ t. held-exactly r ok trace (suc t) (status (last r));
-      statusClear = λ t. clear-exactly r ok trace (suc t) (status (last r));
-      statusUnknown = λ t. unknown-exactly r ok trace (suc t) (status (last r));
+      alertHeld = λ k. held-exactly r ok trace k alert;
+      alertClear = λ k. clear-exactly r ok trace k alert;
+      alertUnknown = λ k. unknown-exactly r ok trace k alert;
+      statusHeld = λ k. held-exactly r ok trace k (status (last r));
+      statusClear = λ k. clear-exactly r ok trace k (status (last r));
+      statusUnknown = λ k. unknown-exactly r ok trace k (status (last r));
       firstSome = first-possible-right r ok trace ticks;
       firstAll = first-held-right r ok trace ticks;
       sureRecovered = recovered-sure r ok trace;

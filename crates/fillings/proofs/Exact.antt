@@ -10,12 +10,13 @@ use borrow.Author.Tests.{ltb-true, ne-eqb}
 use Rattle.rules.specs.Samples.{Sample, Carried, readingsOf}
 use Rattle.rules.specs.Evaluation.{trips, clears, step, evaluated}
 use Rattle.fillings.specs.Fillings.{Rule, Sound, last, Shown, seen, unseen, Filling, filled, evaluate, after}
-use Rattle.fillings.specs.PossibleStates.{someBelow, has, found, anything, moves, leads, next, possible}
+use Rattle.fillings.specs.PossibleStates.{has, found, anything, moves, leads, next, possible}
 use Rattle.fillings.specs.Demand3.{Possible}
-use Rattle.fillings.proofs.Bools.{and-left, and-right, both, or-left, or-right, or-elim, is-true, some-intro, some-elim, has-tabulate, has-below}
+use Rattle.fillings.proofs.Bools.{and-left, and-right, or-left, or-elim, is-true, some-elim, has-tabulate, has-below}
 use Rattle.fillings.proofs.Witness.{blank, blank-carried}
 use Rattle.fillings.proofs.Reach.{Reaches, off-or-within, reach-trip, reach-none, reach-clear}
-use Rattle.fillings.proofs.Next.{from-some, next-has}
+use Rattle.fillings.proofs.Next.{from-some, next-has, next-low, made}
+use Rattle.fillings.proofs.Fewer.{seen-among, next-fewer}
 
 pub step-le : (m : ℕ) (trip back : Bool) (s : ℕ) → step m trip back s ≤ m
 unfolding step
@@ -36,7 +37,7 @@ after-le r trace f (suc k) = go (evaluated (r .row) k) (after-le r trace f k)
     go true h = step-le (last r) _ _ (after r trace f k)
     go false h = h
 
--- what a sample does to a state is among what is possible there
+-- what a sample does to a state is what it can do
 leads-seen : (m : ℕ) (trip back : Bool) (s : ℕ)
     → T (leads m (found trip back) s (step m trip back s))
 unfolding step leads
@@ -50,40 +51,17 @@ leads-seen m trip back s = go (ltb s m) trip back
     go false t true = tt
     go false t false = eqb-refl m
 
--- more is possible
-leads-more : (m : ℕ) (trip back rec : Bool) (s s′ : ℕ) → (T back → T rec)
-    → T (leads m (found trip back) s s′)
-    → T (leads m (anything rec) s s′)
-unfolding leads
-leads-more m trip back rec s s′ h = go (ltb s m) trip back rec h
-  where
-    go : (b t c rec : Bool) → (T c → T rec)
-        → T (cond b (t && eqb (suc s) s′ || not t && eqb 0 s′) (c && eqb 0 s′ || not c && eqb m s′))
-        → T (cond b (eqb (suc s) s′ || eqb 0 s′) (rec && eqb 0 s′ || eqb m s′))
-    go true true c rec h t = or-left (eqb (suc s) s′) (eqb 0 s′) (or-elim (eqb (suc s) s′) false t (λ u. u) (λ u. absurd u))
-    go true false c rec h t = or-right (eqb (suc s) s′) (eqb 0 s′) t
-    go false t true true h u = or-left (eqb 0 s′) (eqb m s′) (or-elim (eqb 0 s′) false u (λ v. v) (λ v. absurd v))
-    go false t true false h u = absurd (h tt)
-    go false t false rec h u = or-right (rec && eqb 0 s′) (eqb m s′) u
-
-only-recovering : (r : Rule) (y : Sample) → T (clears (r .row) (r .setting) (readingsOf y)) → T (r .row .recovers)
-unfolding clears
-only-recovering r y = and-left (r .row .recovers) _
-
-leads-evaluate : (r : Rule) (w : Shown) (y : Sample) (s : ℕ) → T (leads (last r) (moves r w) s (evaluate r (filled w y) s))
+seen-next : (r : Rule) (x : Sample) (p : List Bool) (s : ℕ) → s ≤ last r → T (has p s) → T (has (next (last r) (moves r (seen x)) p) (evaluate r x s))
 unfolding moves
-leads-evaluate r (seen x) y s = leads-seen (last r) (trips (r .idle) (r .row) (r .setting) (readingsOf x)) (clears (r .row) (r .setting) (readingsOf x)) s
-leads-evaluate r unseen y s =
-    leads-more (last r) (trips (r .idle) (r .row) (r .setting) (readingsOf y)) (clears (r .row) (r .setting) (readingsOf y)) (r .row .recovers) s _
-    (only-recovering r y)
-    (leads-seen (last r) (trips (r .idle) (r .row) (r .setting) (readingsOf y)) (clears (r .row) (r .setting) (readingsOf y)) s)
+seen-next r x p s h t =
+    made (last r) _ p s _ h (step-le (last r) _ _ s) t
+    (leads-seen (last r) (trips (r .idle) (r .row) (r .setting) (readingsOf x)) (clears (r .row) (r .setting) (readingsOf x)) s)
 
 sound-next : (r : Rule) (w : Shown) (p : List Bool) (y : Sample) (s : ℕ) → s ≤ last r → T (has p s)
     → T (has (next (last r) (moves r w) p) (evaluate r (filled w y) s))
-sound-next r w p y s h t =
-    let s′ = evaluate r (filled w y) s in
-    rw (next-has (last r) (moves r w) p s′ (step-le (last r) _ _ s))
-    (some-intro (suc (last r)) (from-some (last r) (moves r w) p s′) s (omega arith) (both (has p s) (leads (last r) (moves r w) s s′) t (leads-evaluate r w y s)))
+sound-next r (seen x) p y s h t = seen-next r x p s h t
+sound-next r unseen p y s h t =
+    next-fewer (last r) (moves r (seen y)) (moves r unseen) p p (seen-among r y) (λ i u. u) _ (seen-next r y p s h t)
 
 pub sound : (r : Rule) (trace : ℕ → Shown) (f : ℕ → Sample) (k : ℕ) → T (has (possible r trace k) (after r trace f k))
 unfolding after possible
@@ -95,6 +73,11 @@ sound r trace f (suc k) = go (evaluated (r .row) k) (sound r trace f k)
         (cond b (evaluate r (filled (trace k) (f k)) (after r trace f k)) (after r trace f k)))
     go true h = sound-next r (trace k) (possible r trace k) (f k) (after r trace f k) (after-le r trace f k) h
     go false h = h
+
+-- some state is always possible
+pub some-possible : (r : Rule) (trace : ℕ → Shown) (k : ℕ) → (s : ℕ) × (s ≤ last r) × T (has (possible r trace k) s)
+some-possible r trace k =
+    let f : ℕ → Sample = λ t. blank (r .cells) in (after r trace f k, after-le r trace f k, sound r trace f k)
 
 -- A sample of this trace's layout that leads from s to s′.
 abbrev Way : Rule → Shown → ℕ → ℕ → Type 0
@@ -169,10 +152,8 @@ put-at : (f : ℕ → Sample) (k : ℕ) (y : Sample) → put f k y k ≡ y
 put-at f k y = ap (λ b. cond b y (f k)) (is-true (eqb k k) (eqb-refl k))
 
 came-from : (r : Rule) → Sound r → (w : Shown) (p : List Bool) (s′ : ℕ) → T (has (next (last r) (moves r w) p) s′) → (s : ℕ) × T (has p s) × Way r w s s′
-unfolding next
 came-from r ok w p s′ t =
-    let h = has-below (suc (last r)) (λ i. someBelow (suc (last r)) (from-some (last r) (moves r w) p i)) s′ t in
-    let low : s′ ≤ last r = omega arith in
+    let low = next-low (last r) (moves r w) p s′ t in
     let (s, i, u) = some-elim (suc (last r)) (from-some (last r) (moves r w) p s′) (rw (next-has (last r) (moves r w) p s′ low) at t) in
     (s, and-left (has p s) (leads (last r) (moves r w) s s′) u, way r ok w s s′ low (and-right (has p s) (leads (last r) (moves r w) s s′) u))
 

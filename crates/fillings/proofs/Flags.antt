@@ -5,19 +5,19 @@ use native.Mathlib.Nat.{eq-or-lt-of-le}
 use mathlib.Core.Path.{_≡_, refl, sym, ap, ap₂, subst}
 use mathlib.Core.Logic.{_↔_, _⊎_, inl, inr, ⊎-elim}
 use mathlib.Core.Bool.{Bool, true, false, not, cond, _&&_}
+use mathlib.Core.List.{List}
 use lib.Dec.{T, T-not, not-T}
 use Rattle.rules.specs.Samples.{Sample}
 use Rattle.rules.specs.Evaluation.{status}
 use Rattle.flags.specs.declared.Flag.{Flag}
 use Rattle.flags.specs.declared.Flag.the-variants.{Clear, Held, Unknown}
 use Rattle.flags.specs.Flags.{flagOf}
-use Rattle.fillings.specs.Fillings.{Rule, Sound, last, Shown, Filling, after}
+use Rattle.fillings.specs.Fillings.{Rule, Sound, last, Shown, after}
 use Rattle.fillings.specs.PossibleStates.{someBelow, has, possible}
 use Rattle.fillings.specs.Flags.{flag, statusFlag, notClear, isHeld, firstFrom, firstPossible, firstHeld}
 use Rattle.fillings.specs.Demand3.{Always, Sometimes, First}
 use Rattle.fillings.proofs.Bools.{and-left, and-right, both, is-true, refuted, some-intro, some-elim}
-use Rattle.fillings.proofs.Witness.{blank, blank-carried}
-use Rattle.fillings.proofs.Exact.{after-le, sound, complete}
+use Rattle.fillings.proofs.Exact.{after-le, sound, some-possible, complete}
 
 held-none : (a b : Bool) → flagOf a b ≡ Held → b ≡ false
 held-none true true e = let z : _≡_ {A = ℕ} 0 1 = cc in absurd (omega arith)
@@ -52,45 +52,76 @@ unless-not : (b : Bool) → (T (not b) → ⊥) → T b
 unless-not true f = tt
 unless-not false f = f tt
 
-module _ (r : Rule) (ok : Sound r) (trace : ℕ → Shown) (k : ℕ) where
-  -- the set meets a test exactly if the test holds under some filling
+-- A test holds in every state of a set of the states 0 to m.
+abbrev pub InAll : ℕ → List Bool → (ℕ → Bool) → Type 0
+InAll m p test = (s : ℕ) → s ≤ m → T (has p s) → T (test s)
+
+-- What a flag over a set says of its states.
+module _ (m : ℕ) (p : List Bool) where
+  -- some state of the set meets a test
   abbrev meets : (ℕ → Bool) → Bool
-  meets test = someBelow (suc (last r)) (λ s. has (possible r trace k) s && test s)
+  meets test = someBelow (suc m) (λ s. has p s && test s)
 
-  meets-some : (test : ℕ → Bool) → T (meets test) → Sometimes r trace k test
+  state-meets : (test : ℕ → Bool) (s : ℕ) → s ≤ m → T (has p s) → T (test s) → T (meets test)
+  state-meets test s h a t = some-intro (suc m) (λ i. has p i && test i) s (omega arith) (both (has p s) (test s) a t)
+
+  meets-state : (test : ℕ → Bool) → T (meets test) → (s : ℕ) × (s ≤ m) × T (has p s) × T (test s)
+  meets-state test t =
+      let (s, h, u) = some-elim (suc m) (λ i. has p i && test i) t in
+      (s, omega arith, and-left (has p s) (test s) u, and-right (has p s) (test s) u)
+
+  pub held-in-all : (test : ℕ → Bool) → flag m test p ≡ Held → InAll m p test
+  unfolding flag
+  held-in-all test e s h a =
+      unless-not (test s)
+      (λ t. subst T (held-none (meets test) (meets (λ i. not (test i))) e) (state-meets (λ i. not (test i)) s h a t))
+
+  pub in-all-held : (test : ℕ → Bool) (s : ℕ) → s ≤ m → T (has p s) → InAll m p test → flag m test p ≡ Held
+  unfolding flag
+  in-all-held test s h a all =
+      ap₂ flagOf (is-true (meets test) (state-meets test s h a (all s h a)))
+      (refuted (meets (λ i. not (test i))) (λ t. let (i, l, b, u) = meets-state (λ j. not (test j)) t in T-not (test i) u (all i l b)))
+
+  pub clear-in-all : (test : ℕ → Bool) → flag m test p ≡ Clear → InAll m p (λ s. not (test s))
+  unfolding flag
+  clear-in-all test e s h a =
+      not-T (test s) (λ t. subst T (clear-none (meets test) (meets (λ i. not (test i))) e) (state-meets test s h a t))
+
+  pub in-all-clear : (test : ℕ → Bool) → InAll m p (λ s. not (test s)) → flag m test p ≡ Clear
+  unfolding flag
+  in-all-clear test all =
+      ap (λ b. flagOf b (meets (λ i. not (test i))))
+      (refuted (meets test) (λ t. let (i, l, b, u) = meets-state test t in T-not (test i) (all i l b) u))
+
+module _ (r : Rule) (ok : Sound r) (trace : ℕ → Shown) (k : ℕ) where
+  abbrev met : (ℕ → Bool) → Bool
+  met = meets (last r) (possible r trace k)
+
+  -- the set meets a test exactly if the test holds under some filling
+  meets-some : (test : ℕ → Bool) → T (met test) → Sometimes r trace k test
   meets-some test t =
-      let (s, h, u) = some-elim (suc (last r)) (λ i. has (possible r trace k) i && test i) t in
-      let (f, fills, e) = complete r ok trace k s (and-left (has (possible r trace k) s) (test s) u) in
-      (f, fills, subst (λ i. T (test i)) (sym e) (and-right (has (possible r trace k) s) (test s) u))
+      let (s, l, h, u) = meets-state (last r) (possible r trace k) test t in
+      let (f, fills, e) = complete r ok trace k s h in (f, fills, subst (λ i. T (test i)) (sym e) u)
 
-  some-meets : (test : ℕ → Bool) (f : ℕ → Sample) → T (test (after r trace f k)) → T (meets test)
-  some-meets test f t =
-      let low = after-le r trace f k in
-      some-intro (suc (last r)) (λ i. has (possible r trace k) i && test i) (after r trace f k) (omega arith)
-      (both (has (possible r trace k) (after r trace f k)) (test (after r trace f k)) (sound r trace f k) t)
+  some-meets : (test : ℕ → Bool) (f : ℕ → Sample) → T (test (after r trace f k)) → T (met test)
+  some-meets test f = state-meets (last r) (possible r trace k) test (after r trace f k) (after-le r trace f k) (sound r trace f k)
 
-  -- some filling there is
-  a-filling : Filling (r .cells) trace (λ t. blank (r .cells))
-  a-filling t u = blank-carried (r .cells)
+  -- what holds under every filling holds in every state of the set
+  always-in-all : (test : ℕ → Bool) → Always r trace k test → InAll (last r) (possible r trace k) test
+  always-in-all test all s l h = let (f, fills, e) = complete r ok trace k s h in subst (λ i. T (test i)) e (all f fills)
 
   -- a flag reads held exactly if its test holds under every filling
   pub held-exactly : (test : ℕ → Bool) → (flag (last r) test (possible r trace k) ≡ Held) ↔ Always r trace k test
-  unfolding flag
   held-exactly test = (
-    (λ e f fills. unless-not (test (after r trace f k))
-        (λ t. subst T (held-none (meets test) (meets (λ s. not (test s))) e) (some-meets (λ s. not (test s)) f t))),
-    (λ all. ap₂ flagOf (is-true (meets test) (some-meets test (λ t. blank (r .cells)) (all (λ t. blank (r .cells)) a-filling)))
-        (refuted (meets (λ s. not (test s))) (λ t. let (f, fills, u) = meets-some (λ s. not (test s)) t in
-        T-not (test (after r trace f k)) u (all f fills)))),
+    (λ e f fills. held-in-all (last r) (possible r trace k) test e (after r trace f k) (after-le r trace f k) (sound r trace f k)),
+    (λ all. let (s, h, a) = some-possible r trace k in in-all-held (last r) (possible r trace k) test s h a (always-in-all test all)),
   )
 
   -- clear exactly if it holds under none
   pub clear-exactly : (test : ℕ → Bool) → (flag (last r) test (possible r trace k) ≡ Clear) ↔ Always r trace k (λ s. not (test s))
-  unfolding flag
   clear-exactly test = (
-    (λ e f fills. not-T (test (after r trace f k)) (λ t. subst T (clear-none (meets test) (meets (λ s. not (test s))) e) (some-meets test f t))),
-    (λ all. ap (λ b. flagOf b (meets (λ s. not (test s)))) (refuted (meets test) (λ t. let (f, fills, u) = meets-some test t in
-        T-not (test (after r trace f k)) (all f fills) u))),
+    (λ e f fills. clear-in-all (last r) (possible r trace k) test e (after r trace f k) (after-le r trace f k) (sound r trace f k)),
+    (λ all. in-all-clear (last r) (possible r trace k) test (always-in-all (λ s. not (test s)) all)),
   )
 
   -- unknown exactly if it holds under one and not under another
@@ -98,17 +129,17 @@ module _ (r : Rule) (ok : Sound r) (trace : ℕ → Shown) (k : ℕ) where
       → (flag (last r) test (possible r trace k) ≡ Unknown) ↔ (Sometimes r trace k test × Sometimes r trace k (λ s. not (test s)))
   unfolding flag
   unknown-exactly test = (
-    (λ e. let (a, b) = unknown-both (meets test) (meets (λ s. not (test s))) e in (meets-some test a, meets-some (λ s. not (test s)) b)),
-    (λ w. ap₂ flagOf (is-true (meets test) (some-meets test (w .0 .0) (w .0 .2)))
-        (is-true (meets (λ s. not (test s))) (some-meets (λ s. not (test s)) (w .1 .0) (w .1 .2)))),
+    (λ e. let (a, b) = unknown-both (met test) (met (λ s. not (test s))) e in (meets-some test a, meets-some (λ s. not (test s)) b)),
+    (λ w. ap₂ flagOf (is-true (met test) (some-meets test (w .0 .0) (w .0 .2)))
+        (is-true (met (λ s. not (test s))) (some-meets (λ s. not (test s)) (w .1 .0) (w .1 .2)))),
   )
 
   -- the tests behind the first ticks
   not-clear-exactly : (test : ℕ → Bool) → T (notClear (flag (last r) test (possible r trace k))) ↔ Sometimes r trace k test
   unfolding flag
   not-clear-exactly test = (
-    (λ t. meets-some test (not-clear-meets (meets test) (meets (λ s. not (test s))) t)),
-    (λ w. meets-not-clear (meets test) (meets (λ s. not (test s))) (some-meets test (w .0) (w .2))),
+    (λ t. meets-some test (not-clear-meets (met test) (met (λ s. not (test s))) t)),
+    (λ w. meets-not-clear (met test) (met (λ s. not (test s))) (some-meets test (w .0) (w .2))),
   )
 
   is-held-exactly : (test : ℕ → Bool) → T (isHeld (flag (last r) test (possible r trace k))) ↔ Always r trace k test

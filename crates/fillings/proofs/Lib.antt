@@ -1,11 +1,13 @@
 pub mod Bools
 pub mod Integers
 pub mod Next
+pub mod Fewer
 pub mod Witness
 pub mod Reach
 pub mod Tests
 pub mod Exact
 pub mod Flags
+pub mod MoreSeen
 pub mod Sure
 pub mod Demand3
 pub mod Outputs

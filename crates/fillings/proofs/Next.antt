@@ -10,7 +10,7 @@ use lib.ListN.{length}
 use lib.Dec.{T, eqb, eqb→eq, eqb-refl}
 use borrow.Author.Tests.{lt-ltb, le-ltb}
 use Rattle.fillings.specs.PossibleStates.{someBelow, has, Moves, leads, next}
-use Rattle.fillings.proofs.Bools.{and-left, and-right, both, or-left, or-right, or-elim, some-intro, some-elim, has-tabulate, length-tabulate, bool-ext}
+use Rattle.fillings.proofs.Bools.{and-left, and-right, both, or-left, or-right, or-elim, some-intro, some-elim, has-tabulate, has-below, length-tabulate, bool-ext}
 
 -- the test that the set after an evaluation tabulates
 abbrev pub from-some : ℕ → Moves → List Bool → ℕ → ℕ → Bool
@@ -24,6 +24,10 @@ module _ (m : ℕ) (w : Moves) (p : List Bool) where
   pub next-has : (s′ : ℕ) → s′ ≤ m → has (next m w p) s′ ≡ someBelow (suc m) (from-some m w p s′)
   unfolding next
   next-has s′ h = has-tabulate (suc m) (λ t. someBelow (suc m) (from-some m w p t)) s′ (omega arith)
+
+  pub next-low : (s : ℕ) → T (has (next m w p) s) → s ≤ m
+  unfolding next
+  next-low s t = let l = has-below (suc m) (λ s′. someBelow (suc m) (from-some m w p s′)) s t in omega arith
 
   leads-below : (s s′ : ℕ) → s < m → leads m w s s′ ≡ (w .up && eqb (suc s) s′ || w .restart && eqb 0 s′)
   unfolding leads
@@ -54,7 +58,7 @@ module _ (m : ℕ) (w : Moves) (p : List Bool) where
       (λ v. restart s l′ a (and-left (w .restart) (eqb 0 s′) v) (eqb→eq 0 s′ (and-right (w .restart) (eqb 0 s′) v))))
       (eq-or-lt-of-le low)
 
-  made : (s s′ : ℕ) → s ≤ m → s′ ≤ m → T (has p s) → T (leads m w s s′) → T (has (next m w p) s′)
+  pub made : (s s′ : ℕ) → s ≤ m → s′ ≤ m → T (has p s) → T (leads m w s s′) → T (has (next m w p) s′)
   made s s′ l h a b = rw (next-has s′ h) (some-intro (suc m) (from-some m w p s′) s (omega arith) (both (has p s) (leads m w s s′) a b))
 
   pub by-up : (s : ℕ) → s < m → T (has p s) → T (w .up) → T (has (next m w p) (suc s))

@@ -53,13 +53,13 @@ Tripping r trace a k =
 pub record Judged (r : Rule) (trace : ℕ → Shown) (ticks : ℕ) : Type 0 where
   -- a state is in the computed set exactly if some filling gives it
   pub exact : (k s : ℕ) → T (has (possible r trace k) s) ↔ Possible r trace k s
-  -- at every tick alert and status read held exactly if held under every filling, clear exactly if under none, else unknown
-  pub alertHeld : (t : ℕ) → (alertFlag r trace (suc t) ≡ Held) ↔ Always r trace (suc t) alert
-  pub alertClear : (t : ℕ) → (alertFlag r trace (suc t) ≡ Clear) ↔ Always r trace (suc t) (λ s. not (alert s))
-  pub alertUnknown : (t : ℕ) → (alertFlag r trace (suc t) ≡ Unknown) ↔ (Sometimes r trace (suc t) alert × Sometimes r trace (suc t) (λ s. not (alert s)))
-  pub statusHeld : (t : ℕ) → (statusFlag r trace (suc t) ≡ Held) ↔ Always r trace (suc t) (status (last r))
-  pub statusClear : (t : ℕ) → (statusFlag r trace (suc t) ≡ Clear) ↔ Always r trace (suc t) (λ s. not (status (last r) s))
-  pub statusUnknown : (t : ℕ) → (statusFlag r trace (suc t) ≡ Unknown) ↔ (Sometimes r trace (suc t) (status (last r)) × Sometimes r trace (suc t) (λ s. not (status (last r) s)))
+  -- once any number of ticks have passed alert and status read held exactly if held under every filling, clear exactly if under none, else unknown
+  pub alertHeld : (k : ℕ) → (alertFlag r trace k ≡ Held) ↔ Always r trace k alert
+  pub alertClear : (k : ℕ) → (alertFlag r trace k ≡ Clear) ↔ Always r trace k (λ s. not (alert s))
+  pub alertUnknown : (k : ℕ) → (alertFlag r trace k ≡ Unknown) ↔ (Sometimes r trace k alert × Sometimes r trace k (λ s. not (alert s)))
+  pub statusHeld : (k : ℕ) → (statusFlag r trace k ≡ Held) ↔ Always r trace k (status (last r))
+  pub statusClear : (k : ℕ) → (statusFlag r trace k ≡ Clear) ↔ Always r trace k (λ s. not (status (last r) s))
+  pub statusUnknown : (k : ℕ) → (statusFlag r trace k ≡ Unknown) ↔ (Sometimes r trace k (status (last r)) × Sometimes r trace k (λ s. not (status (last r) s)))
   -- the two first ticks
   pub firstSome : First ticks (λ t. Sometimes r trace (suc t) (status (last r))) (firstPossible r trace ticks)
   pub firstAll : First ticks (λ t. Always r trace (suc t) (status (last r))) (firstHeld r trace ticks)

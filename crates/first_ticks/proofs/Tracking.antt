@@ -6,11 +6,10 @@ use mathlib.Core.Bool.{Bool, cond}
 use mathlib.Core.List.{List, _∷_}
 use lib.ListN.{getD}
 use Rattle.rules.specs.Table.{rowAt}
-use Rattle.rules.specs.Evaluation.{status}
 use Rattle.flags.specs.declared.Flag.{Flag}
 use Rattle.fillings.specs.Fillings.{last, Shown, unseen, Config, ruleOf}
 use Rattle.fillings.specs.PossibleStates.{tabulate, unseenTimes}
-use Rattle.fillings.specs.Flags.{flag, statusFlag, notClear, isHeld, firstFrom}
+use Rattle.fillings.specs.Flags.{flagsOf, statusFlag, notClear, isHeld, firstFrom}
 use Rattle.fillings.proofs.Still.{possible-hole}
 use Rattle.states.specs.Steps.{settingOf, setOf, evaluationsOf}
 use Rattle.states.specs.Readings.{statusOf}
@@ -37,7 +36,7 @@ noted-each found firsts new h =
 module _ (p : Config) (short : ShortTimes p) (trace : ℕ → Shown) where
   -- the status of rule i over a set of its states
   abbrev statusOver : ℕ → List Bool → Flag
-  statusOver i = flag (last (ruleOf p i)) (status (last (ruleOf p i)))
+  statusOver i q = flagsOf (rowAt i) (last (ruleOf p i)) q .status
 
   status-at : (k i : ℕ) → i < 16 → statusOf (settingOf (p .settings) i) i (recordAt p trace k) ≡ statusFlag (ruleOf p i) trace k
   status-at k i h = ap (statusOver i) (set-at p short trace k i h)

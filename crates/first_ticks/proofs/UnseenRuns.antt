@@ -10,7 +10,7 @@ use Rattle.rules.specs.declared.Setting.{Setting}
 use Rattle.rules.specs.Table.{rowAt}
 use Rattle.rules.specs.Evaluation.{top, status}
 use Rattle.fillings.specs.PossibleStates.{someBelow, unseenTimes}
-use Rattle.fillings.specs.Flags.{flag, notClear, firstFrom}
+use Rattle.fillings.specs.Flags.{flag, flagsOf, notClear, firstFrom}
 use Rattle.fillings.specs.Demand3.{evaluations}
 use Rattle.fillings.proofs.Bools.{length-tabulate}
 use Rattle.states.specs.Records.{at, statesOf, ruleWords}
@@ -35,7 +35,7 @@ off-clear m p e = ap (λ (x : ℕ). notClear (flag x (status x) p)) e ∙ status
 -- Whether status is held or unknown at tick t of a run.
 abbrev possible-at : Setting → ℕ → ℕ → List ℕ → ℕ → Bool
 possible-at s i first ws t =
-    notClear (flag (top (s .time)) (status (top (s .time))) (unseenTimes (evaluationsOf first t i) (top (s .time)) (rowAt i .recovers) (setOf s i ws)))
+    notClear (flagsOf (rowAt i) (top (s .time)) (unseenTimes (evaluationsOf first t i) (top (s .time)) (rowAt i .recovers) (setOf s i ws)) .status)
 
 -- Whether k evaluations lead to the top state, and the fewest that do.
 abbrev leads : Setting → ℕ → List ℕ → ℕ → Bool

@@ -6,10 +6,10 @@ use lib.Dec.{eqb}
 use lib.ListN.{getD, length}
 use Rattle.rules.specs.declared.Setting.{Setting}
 use Rattle.rules.specs.Table.{rowAt}
-use Rattle.rules.specs.Evaluation.{top, status}
+use Rattle.rules.specs.Evaluation.{top}
 use Rattle.flags.specs.declared.Flag.{Flag}
 use Rattle.fillings.specs.PossibleStates.{tabulate, unseenTimes}
-use Rattle.fillings.specs.Flags.{flag, notClear, firstFrom}
+use Rattle.fillings.specs.Flags.{flagsOf, notClear, firstFrom}
 use Rattle.states.specs.Steps.{settingOf, setOf, evaluationsOf}
 use Rattle.states.specs.Readings.{statusOf}
 
@@ -30,7 +30,7 @@ notedSeen kind ss tick ws fs =
 abbrev pub firstUnseen : ℕ → ℕ → Setting → ℕ → List ℕ → ℕ
 firstUnseen first last s i ws =
     firstFrom first (suc last - first)
-    (λ t. notClear (flag (top (s .time)) (status (top (s .time))) (unseenTimes (evaluationsOf first t i) (top (s .time)) (rowAt i .recovers) (setOf s i ws))))
+    (λ t. notClear (flagsOf (rowAt i) (top (s .time)) (unseenTimes (evaluationsOf first t i) (top (s .time)) (rowAt i .recovers) (setOf s i ws)) .status))
 
 -- The first ticks of a status held or unknown after the unseen ticks from first to last, from the record before them.
 unfoldable pub notedUnseen : List Setting → ℕ → ℕ → List ℕ → List ℕ → List ℕ

@@ -22,7 +22,8 @@ use Rattle.report.specs.Layout.{reportBytes, reported}
 use Rattle.totals.proofs.AcceptedTotals as totals
 use Rattle.ticks.specs.Traces.{traceOf, shown}
 use Rattle.ticks.proofs.AcceptedBytes.{accepted, checks, short-times}
-use Rattle.demands.specs.Report.{flagsAt, firstsAt, totalsAt, traceReport}
+use Rattle.fillings.specs.Flags.{flagsAt}
+use Rattle.demands.specs.Report.{firstsAt, totalsAt, traceReport}
 use Rattle.demands.specs.Verdicts.{verdictOn, traceVerdicts}
 use Rattle.walk.proofs.Starting.{stands-start}
 use Rattle.judge.specs.declared.advance.Frame.{Frame}

@@ -12,7 +12,8 @@ use Rattle.states.specs.Records.{fresh}
 use Rattle.states.specs.Readings.{allFlags}
 use Rattle.states.proofs.Tracking.{tracks}
 use Rattle.first_ticks.specs.Firsts.{none}
-use Rattle.demands.specs.Report.{flagsAt, firstsAt}
+use Rattle.fillings.specs.Flags.{flagsAt}
+use Rattle.demands.specs.Report.{firstsAt}
 use Rattle.verdicts.specs.declared.Tick.the-variants.{Unseen}
 use Rattle.walk.specs.Walk.{startOf}
 use Rattle.walk.specs.Places.{shows}

@@ -15,10 +15,11 @@ use Rattle.states.specs.Tracking.{recordAt}
 use Rattle.flags.specs.declared.Output.{Output}
 use Rattle.flags.specs.Outputs.{drivers}
 use Rattle.fillings.specs.Fillings.{Config}
+use Rattle.fillings.specs.Flags.{flagsAt}
 use Rattle.fillings.specs.Outputs.{output}
 use Rattle.fillings.specs.Charge.{leastCharge, greatestCharge}
 use Rattle.ticks.specs.Traces.{Trace, traceOf, shown}
-use Rattle.demands.specs.Report.{flagsAt, totalsAt}
+use Rattle.demands.specs.Report.{totalsAt}
 use Rattle.live.specs.declared.Live.{Live}
 use Rattle.live.specs.State.{good, withSample, withHole}
 use Rattle.live.specs.Calls.{beginState, beginAnswer, sampleAnswer, sampleState, holeAnswer, holeState, flagsRead, outputRead, totalsRead, netRead}

@@ -5,7 +5,7 @@ ghost use Prim.Native.Nat.{_-_};
 ghost use lib.IntN.{pos, negℤ};
 ghost use lib.Signed.{ltZ};
 ghost use Rattle.rules.specs.Quantities.{value, qualified};
-ghost use Rattle.rules.specs.Evaluation.{beyond, opposite, trips, clears, top, evaluated};
+ghost use Rattle.rules.specs.Evaluation.{beyond, opposite, trips, clears, top, step, evaluated};
 use crate::Quantity;
 use crate::Readings;
 use crate::Row;
@@ -126,4 +126,20 @@ pub fn top_of(time: u8) -> usize
     ensures { λ m. ⌜ m ≡ top time ⌝ }
 {
     time as usize
+}
+
+// The state after one evaluation of a rule whose top state is `top`.
+pub fn step_state(top: usize, trips: bool, clears: bool, state: usize) -> usize
+    ensures { λ r. ⌜ r ≡ step top trips clears state ⌝ }
+{
+    if state < top {
+        if trips {
+            return state + 1;
+        }
+        return 0;
+    }
+    if clears {
+        return 0;
+    }
+    top
 }

@@ -9,6 +9,7 @@ pub use evaluation::and;
 pub use evaluation::evaluated_at;
 pub use evaluation::meets_recovery;
 pub use evaluation::meets_threshold;
+pub use evaluation::step_state;
 pub use evaluation::top_of;
 
 // What a rule looks at. A quantity 'charging' or 'discharging' counts towards the threshold only while the pack does so.

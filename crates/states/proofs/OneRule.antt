@@ -13,13 +13,12 @@ use Rattle.flags.specs.declared.Flag.{Flag}
 use Rattle.flags.specs.declared.Flag.the-variants.{Clear}
 use Rattle.fillings.specs.Flags.{flag}
 use Rattle.states.specs.Records.{bit, at, statesOf, ruleWords}
-use Rattle.states.specs.Steps.{setOf}
-use Rattle.states.specs.Readings.{statusIn, allowed}
+use Rattle.states.specs.Readings.{statusOf, statusIn, allowed}
 use Rattle.states.proofs.EachRule.{word-of}
 use Rattle.states.proofs.SetFlags.{status-off, status-clear}
 
 module _ (ws : List ℕ) (i : ℕ) (long : length ws ≡ 80) (rule : i < 16) where
-  pub status-of-rule : (s : Setting) → statusIn s i ws ≡ flag (top (s .time)) (status (top (s .time))) (setOf s i ws)
+  pub status-of-rule : (s : Setting) → statusIn s i ws ≡ statusOf s i ws
   unfolding statusIn
   status-of-rule s = rw (eq-eqb (length ws) 80 long, lt-ltb i 16 rule)
 

@@ -10,16 +10,15 @@ use lib.Seq.{ext-getD}
 use borrow.Author.Tests.{eq-eqb, ltb-false}
 use Rattle.rules.specs.Samples.{Sample, readingsOf}
 use Rattle.rules.specs.Table.{rowAt}
-use Rattle.rules.specs.Evaluation.{trips, clears, top, evaluated, alert, status}
-use Rattle.flags.specs.declared.RuleFlags.{RuleFlags}
+use Rattle.rules.specs.Evaluation.{trips, clears, top, evaluated}
 use Rattle.fillings.specs.Fillings.{Rule, last, Shown, seen, unseen, Config, ruleOf}
 use Rattle.fillings.specs.PossibleStates.{tabulate, Moves, found, moves, next, start, possible, unseenTimes}
-use Rattle.fillings.specs.Flags.{flag, alertFlag, statusFlag}
+use Rattle.fillings.specs.Flags.{flagsOf, ruleFlags, flagsAt}
 use Rattle.fillings.specs.Demand3.{evaluations}
 use Rattle.fillings.proofs.Still.{possible-length, possible-hole}
 use Rattle.states.specs.Records.{at, statesOf, wordsOf, ruleWords, recordWith, packed, fresh}
 use Rattle.states.specs.Steps.{settingOf, setOf, movesAt, seenWords, afterSeen, evaluationsOf, movesBetween, unseenWords, afterUnseen}
-use Rattle.states.specs.Readings.{flagsOf, allFlags}
+use Rattle.states.specs.Readings.{allFlags}
 use Rattle.states.specs.Tracking.{recordAt, ShortTimes, Tracks}
 use Rattle.states.proofs.Packing.{wordsOf-length, states-words}
 use Rattle.states.proofs.AtZero.{start-words}
@@ -133,17 +132,16 @@ module _ (p : Config) (short : ShortTimes p) (trace : ℕ → Shown) where
       (λ i h c. kept a (suc b) i (ltb 0 (settingOf (p .settings) i .time)) (ltb 0 (evaluationsOf a b i)) refl c
       (λ v. let z : evaluationsOf a b i ≤ 0 = ltb-false 0 (evaluationsOf a b i) v in no-evaluation (ruleOf p i) trace a b l u (omega arith))))))
 
-  reads : (k : ℕ) → allFlags (p .settings) (recordAt p trace k)
-      ≡ tabulate 16 (λ i. record { alert = alertFlag (ruleOf p i) trace k; status = statusFlag (ruleOf p i) trace k })
+  reads : (k : ℕ) → allFlags (p .settings) (recordAt p trace k) ≡ flagsAt p trace k
   unfolding allFlags
   reads k =
-      ap (λ (b : Bool). cond b (tabulate 16 (λ i. flagsOf (top (settingOf (p .settings) i .time)) (setOf (settingOf (p .settings) i) i (recordAt p trace k)))) (tabulate 16 (λ i. unknown))) (eq-eqb (length (recordAt p trace k)) 80 (packed-length (P k)))
+      ap (λ (b : Bool). cond b (tabulate 16 (λ i. flagsOf (rowAt i) (top (settingOf (p .settings) i .time)) (setOf (settingOf (p .settings) i) i (recordAt p trace k)))) (tabulate 16 (λ i. unknown))) (eq-eqb (length (recordAt p trace k)) 80 (packed-length (P k)))
       ∙ ext-getD unknown _ _ refl
       (λ i h.
       let g : i < 16 = h in
-      getD-tabulate 16 (λ j. flagsOf (top (settingOf (p .settings) j .time)) (setOf (settingOf (p .settings) j) j (recordAt p trace k))) unknown i g
-      ∙ ap (flagsOf (last (ruleOf p i))) (set-at k i g)
-      ∙ sym (getD-tabulate 16 (λ j. record { alert = alertFlag (ruleOf p j) trace k; status = statusFlag (ruleOf p j) trace k }) unknown i g))
+      getD-tabulate 16 (λ j. flagsOf (rowAt j) (top (settingOf (p .settings) j .time)) (setOf (settingOf (p .settings) j) j (recordAt p trace k))) unknown i g
+      ∙ ap (flagsOf (rowAt i) (last (ruleOf p i))) (set-at k i g)
+      ∙ sym (getD-tabulate 16 (λ j. ruleFlags (ruleOf p j) trace k) unknown i g))
 
 -- The record follows every trace whose times are at most 255.
 pub tracks : (p : Config) → ShortTimes p → (trace : ℕ → Shown) → Tracks p trace

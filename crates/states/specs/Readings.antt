@@ -5,29 +5,26 @@ use mathlib.Core.List.{List}
 use lib.Dec.{ltb, eqb}
 use lib.ListN.{length}
 use Rattle.rules.specs.declared.Setting.{Setting}
-use Rattle.rules.specs.Evaluation.{top, alert, status}
+use Rattle.rules.specs.Table.{rowAt}
+use Rattle.rules.specs.Evaluation.{top}
 use Rattle.flags.specs.declared.Flag.{Flag}
 use Rattle.flags.specs.declared.Flag.the-variants.{Unknown}
 use Rattle.flags.specs.declared.RuleFlags.{RuleFlags}
 use Rattle.fillings.specs.PossibleStates.{tabulate}
-use Rattle.fillings.specs.Flags.{flag}
+use Rattle.fillings.specs.Flags.{flagsOf}
 use Rattle.states.specs.Records.{at, ruleWords}
 use Rattle.states.specs.Steps.{settingOf, setOf}
-
--- The alert and the status of a set of the states 0 to m.
-abbrev pub flagsOf : ℕ → List Bool → RuleFlags
-flagsOf m p = record { alert = flag m alert p; status = flag m (status m) p }
 
 -- The flags of all sixteen rules; of a list that is not eighty words long nothing is known.
 unfoldable pub allFlags : List Setting → List ℕ → List RuleFlags
 allFlags ss ws =
     cond (eqb (length ws) 80)
-    (tabulate 16 (λ i. flagsOf (top (settingOf ss i .time)) (setOf (settingOf ss i) i ws)))
+    (tabulate 16 (λ i. flagsOf (rowAt i) (top (settingOf ss i .time)) (setOf (settingOf ss i) i ws)))
     (tabulate 16 (λ i. record { alert = Unknown; status = Unknown }))
 
 -- The status of rule i in a record.
 abbrev pub statusOf : Setting → ℕ → List ℕ → Flag
-statusOf s i ws = flag (top (s .time)) (status (top (s .time))) (setOf s i ws)
+statusOf s i ws = flagsOf (rowAt i) (top (s .time)) (setOf s i ws) .status
 
 -- The same; unknown where it is no rule or the list is not eighty words long.
 unfoldable pub statusIn : Setting → ℕ → List ℕ → Flag

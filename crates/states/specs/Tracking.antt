@@ -6,8 +6,8 @@ use lib.Dec.{T}
 use Rattle.rules.specs.declared.Setting.{Setting}
 use Rattle.rules.specs.Samples.{Sample, readingsOf}
 use Rattle.fillings.specs.Fillings.{Shown, seen, unseen, Config, ruleOf}
-use Rattle.fillings.specs.PossibleStates.{tabulate, possible}
-use Rattle.fillings.specs.Flags.{alertFlag, statusFlag}
+use Rattle.fillings.specs.PossibleStates.{possible}
+use Rattle.fillings.specs.Flags.{flagsAt}
 use Rattle.states.specs.Records.{Fit64, packed, fresh}
 use Rattle.states.specs.Steps.{settingOf, setOf, afterSeen, afterUnseen}
 use Rattle.states.specs.Readings.{allFlags}
@@ -27,8 +27,7 @@ pub record Tracks (p : Config) (trace : ℕ → Shown) : Type 0 where
   pub sees : (k : ℕ) (x : Sample) → trace k ≡ seen x → afterSeen (p .settings) (p .idle) k (readingsOf x) (recordAt p trace k) ≡ recordAt p trace (suc k)
   pub misses : (first last : ℕ) → first ≤ last → ((t : ℕ) → first ≤ t → t ≤ last → trace t ≡ unseen)
       → afterUnseen (p .settings) first last (recordAt p trace first) ≡ recordAt p trace (suc last)
-  pub reads : (k : ℕ) → allFlags (p .settings) (recordAt p trace k)
-      ≡ tabulate 16 (λ i. record { alert = alertFlag (ruleOf p i) trace k; status = statusFlag (ruleOf p i) trace k })
+  pub reads : (k : ℕ) → allFlags (p .settings) (recordAt p trace k) ≡ flagsAt p trace k
 
 -- Valid records that allow the same states are the same record: no bit is spare.
 abbrev pub Determined : Type 0

@@ -2,10 +2,12 @@
 ghost use mathlib.Core.Path.{_≡_};
 ghost use Prim.Native.Nat.{_<_};
 ghost use lib.ListN.{length};
+ghost use Rattle.rules.specs.Table.{rowAt};
 ghost use Rattle.rules.specs.Evaluation.{top};
+ghost use Rattle.fillings.specs.Flags.{flagsOf};
 ghost use Rattle.states.specs.Steps.{setOf};
 ghost use Rattle.states.specs.Words.{Zeros};
-ghost use Rattle.states.specs.Readings.{flagsOf, allFlags, statusIn, allowed, gapOf};
+ghost use Rattle.states.specs.Readings.{allFlags, statusIn, allowed, gapOf};
 use crate::record::load;
 use crate::words::alert_of;
 use crate::words::status_of;
@@ -18,7 +20,7 @@ use rules::Settings;
 
 fn flags_of_rule(words: &[u64], i: usize, setting: Setting) -> RuleFlags
     requires { ⌜ (length (now words) ≡ 80) × (i < 16) ⌝ }
-    ensures { λ r. ⌜ r ≡ flagsOf (top (setting .time)) (setOf setting i (now (words .entry))) ⌝ }
+    ensures { λ r. ⌜ r ≡ flagsOf (rowAt i) (top (setting .time)) (setOf setting i (now (words .entry))) ⌝ }
 {
     let top = top_for(setting.time);
     let w = load(words, i);
