@@ -68,6 +68,29 @@ all-three true true d h = (refl, refl, h)
 all-three true false d h = let z : NotBoth = cc in absurd (omega arith)
 all-three false b d h = let z : NotBoth = cc in absurd (omega arith)
 
+-- The walk goes on wherever it stands, and not past the tick `to`.
+run-goes-on : (holes : List ℕ) (c : Cursor) (to : ℕ) → c .tick < to → holeHere holes c ≡ true → (c .tick < pastRun holes c to .tick) × (pastRun holes c to .tick ≤ to)
+run-goes-on holes c to l h = go (leb to (u32At holes (c .hole + 4))) refl
+  where
+    go : (b : Bool) → leb to (u32At holes (c .hole + 4)) ≡ b → (c .tick < pastRun holes c to .tick) × (pastRun holes c to .tick ≤ to)
+    go true e = rw e (l, omega arith)
+    go false e =
+        let z = all-three (leb (c .hole + 8) (length holes)) (leb (u32At holes (c .hole)) (c .tick)) (leb (c .tick) (u32At holes (c .hole + 4))) h in
+        let k = leb-true (c .tick) (u32At holes (c .hole + 4)) (z .2) in
+        let i = leb-false to (u32At holes (c .hole + 4)) e in
+        rw e (omega arith, omega arith)
+
+module _ (holes samples : List ℕ) (width : ℕ) (c : Cursor) (to : ℕ) {d : Cursor} where
+  pub unseen-goes-on : Unseen d ≡ ahead holes samples width c to → (c .tick < d .tick) × (d .tick ≤ to)
+  unseen-goes-on e =
+      let (l, h, p) = is-run (found holes samples width c to) d (sym e) in
+      subst (λ (y : Cursor). (c .tick < y .tick) × (y .tick ≤ to)) p (run-goes-on holes c to l h)
+
+  pub sample-goes-on : Sample d ≡ ahead holes samples width c to → (c .tick < d .tick) × (d .tick ≤ to) × (c .sample + width ≤ length samples)
+  sample-goes-on e =
+      let (l, h, f, p) = is-taken (found holes samples width c to) d (sym e) in
+      subst (λ (y : Cursor). (c .tick < y .tick) × (y .tick ≤ to) × (c .sample + width ≤ length samples)) p (omega arith, omega arith, f)
+
 module _ {n : ℕ} {holes samples : List ℕ} {m : ℕ} {c : Cursor} (g : Stands n holes samples m c) where
   abbrev hs : List Hole
   hs = holesFrom holes (g .holesLeft) (c .hole)

@@ -45,7 +45,7 @@ feed-all-requires : tie.Need-feed-all-requires
 feed-all-requires c κs =
     let a = c .before .before .before .before .before in
     let h = a .pre .0 in
-    simp (length-take, length-drop) (omega arith, omega arith)
+    simp (length-take, length-drop) (omega arith)
 
 enum-known-answer : tie.Need-enum-known-answer
 enum-known-answer c = search needs

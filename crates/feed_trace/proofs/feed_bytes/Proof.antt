@@ -9,9 +9,6 @@ write-refusal-requires c κs = search needs
 returns : tie.Need-returns
 returns c = search needs
 
-reply-count-requires : tie.Need-reply-count-requires
-reply-count-requires c κs = search needs
-
 accept-requires : tie.Need-accept-requires
 accept-requires c κs = search needs
 
@@ -27,7 +24,7 @@ enum-known-answer-2 c = search needs
 feed-accepted-requires : tie.Need-feed-accepted-requires
 feed-accepted-requires c κs =
     let a = c .before .before .before in
-    (a .before .before .if1 .left, accepted-by _ (a .before .reply-count .ensures) (a .accept .ensures .0) (a .accept .ensures .1 .0) (c .before .answer2 .given .1))
+    (a .before .if1 .left, accepted-by _ (a .accept .ensures .0) (a .accept .ensures .1 .0) (c .before .answer2 .given .1))
 
 returns-2 : tie.Need-returns-2
 returns-2 c = search needs
@@ -41,7 +38,6 @@ feed-bytes-spec =
     (tie.spec
     write-refusal-requires
     returns
-    reply-count-requires
     accept-requires
     enum-known-answer
     write-refusal-requires-2
