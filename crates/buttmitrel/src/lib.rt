@@ -5,7 +5,7 @@ ghost use Rattle.refusals.specs.Refusals.{refusal};
 ghost use Rattle.pec.specs.Reply.{sealAnswer, sealed, checkAnswer};
 ghost use Rattle.trace.specs.Sections.{walkAnswer, replyCount};
 ghost use Rattle.totals.specs.Totals.{netAnswer};
-ghost use Rattle.judge.specs.Judge.{judgeAnswer, acceptance, reportAfter, verdictsAfter};
+ghost use Rattle.judge.specs.Judge.{judgeAnswer, reportAfter, verdictsAfter};
 ghost use Rattle.buttmitrel.specs.Code.{codeOf, verdictCode, intoTwo, twoAfter};
 use judge::Judged;
 use pec::Checked;
@@ -23,7 +23,7 @@ pub fn code(why: Refusal) -> u64
 // Judges a trace into a report of 187 bytes and a verdict buffer as long as its reply count.
 #[no_mangle]
 pub extern "C" fn buttmitrel_judge(s: &[u8], report: &mut [u8], verdicts: &mut [u8]) -> u64
-    ensures answer { λ n. ⌜ n ≡ codeOf (judgeAnswer (acceptance (now (s .entry)) (now (report .entry)) (now (verdicts .entry)))) ⌝ }
+    ensures answer { λ n. ⌜ n ≡ codeOf (judgeAnswer (now (s .entry)) (now (report .entry)) (now (verdicts .entry))) ⌝ }
     ensures report { λ _. ⌜ now (report .exit) ≡ reportAfter (now (s .entry)) (now (report .entry)) (now (verdicts .entry)) ⌝ }
     ensures verdicts { λ _. ⌜ now (verdicts .exit) ≡ verdictsAfter (now (s .entry)) (now (report .entry)) (now (verdicts .entry)) ⌝ }
 {
