@@ -14,7 +14,7 @@ use Rattle.rules.specs.declared.Settings.{Settings}
 use Rattle.rules.specs.declared.Readings.{Readings}
 use Rattle.rules.specs.Samples.{Sample, cellCount, readingsOf}
 use Rattle.limits.specs.Limits.{off, tabulateFrom, settingsOf, settingsIf, ruleSetAnswer}
-use Rattle.readings.specs.Answers.{readAnswer}
+use Rattle.samples.specs.Answers.{readAnswer}
 use Rattle.fillings.specs.Charge.{inward, outward}
 use Rattle.report.specs.declared.Totals.{Totals}
 use Rattle.states.specs.declared.States.{States}
