@@ -11,6 +11,7 @@ use borrow.Author.Tests.{eq-eqb, ne-eqb, eqb-true, le-leb, lt-leb, leb-true}
 use borrow.Author.Count.{below-more}
 use Rattle.refusals.specs.declared.Refusal.{Refusal}
 use Rattle.refusals.specs.Refusals.{answer, refused, passes}
+use Rattle.rules.specs.Samples.{cellCount}
 use Rattle.rules.specs.Table.{rows}
 use Rattle.limits.specs.Limits.{limitsAnswer, settingsOf}
 use Rattle.ticks.proofs.Tests.{and-true}
@@ -120,7 +121,7 @@ module _ (st : Live) (words totals : List ℕ) where
 module _ (n idle : ℕ) (rules words totals : List ℕ) where
   begun-rules : beginAnswer n idle rules ≡ answer tt → length rules ≡ 160
   unfolding beginAnswer
-  begun-rules e = go (leb 3 n && leb n 12) (leb idle 32766) (eqb (length rules) 160) refl e
+  begun-rules e = go (cellCount n) (leb idle 32766) (eqb (length rules) 160) refl e
     where
       go : (a b c : Bool) → eqb (length rules) 160 ≡ c → cond a (cond b (cond c (limitsAnswer n rows (settingsOf rules) 0) (refused 6 0)) (refused 4 0)) (refused 3 0) ≡ answer tt → length rules ≡ 160
       go true true true q e = eqb-true (length rules) 160 q

@@ -14,6 +14,7 @@ use Rattle.rules.specs.declared.Row.{Row}
 use Rattle.rules.specs.declared.Setting.{Setting}
 use Rattle.limits.specs.declared.Limited.{Limited}
 use Rattle.limits.specs.declared.Limited.the-variants.{Within, Refused}
+use Rattle.rules.specs.Samples.{cellCount}
 use Rattle.rules.specs.Table.{rows}
 use Rattle.rules.specs.Quantities.{least, most}
 
@@ -62,7 +63,7 @@ answerOfLimits (Refused why) = refusal why
 -- The check of a rule set for n cells: refusal 3 unless n is 3 to 12, 6 unless it has 160 bytes, then 7.
 unfoldable pub ruleSetAnswer : ℕ → List ℕ → Answer (Unit {0})
 ruleSetAnswer n bytes =
-    cond (leb 3 n && leb n 12) (cond (eqb (length bytes) 160) (limitsAnswer n rows (settingsOf bytes) 0) (refused 6 0)) (refused 3 0)
+    cond (cellCount n) (cond (eqb (length bytes) 160) (limitsAnswer n rows (settingsOf bytes) 0) (refused 6 0)) (refused 3 0)
 
 -- A rule that is switched off.
 abbrev pub off : Setting

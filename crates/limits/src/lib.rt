@@ -12,6 +12,7 @@ use refusals::Refusal;
 use rule::accepts;
 use rules::Setting;
 use rules::Settings;
+use rules::is_cell_count;
 use rules::row_at;
 pub use settings::check_settings;
 
@@ -94,10 +95,7 @@ pub fn check_rules(cells: u8, bytes: &[u8]) -> RuleSet
     ensures answer { λ r. ⌜ answerOfLimits (r .answer) ≡ ruleSetAnswer cells (now (bytes .entry)) ⌝ }
     ensures settings { λ r. ⌜ r .settings .of ≡ settingsIf (ruleSetAnswer cells (now (bytes .entry))) (settingsOf (now (bytes .entry))) ⌝ }
 {
-    if cells < 3 {
-        return refuse(Refusal::CellCount);
-    }
-    if 12 < cells {
+    if !is_cell_count(cells) {
         return refuse(Refusal::CellCount);
     }
     if bytes.len() != 160 {

@@ -7,6 +7,7 @@ use lib.Dec.{leb}
 use lib.ListN.{length, getD, List·getD-eq-default}
 use borrow.Author.Tests.{leb-true, le-leb}
 use Rattle.refusals.specs.Refusals.{Answer, answer, refused, passes}
+use Rattle.rules.specs.Samples.{cellCount}
 use Rattle.rules.specs.Table.{rows, rowAt}
 use Rattle.limits.specs.Limits.{off, limits, limitsAnswer}
 use Rattle.limits.proofs.RuleSets.{time-small, rule-within}
@@ -20,7 +21,7 @@ use Rattle.live.specs.State.{goodRules, goodTotals, good}
 
 -- The tests of a state, in their order.
 abbrev pub headGood : Live → Bool
-headGood s = leb 3 (s .cells) && leb (s .cells) 12 && leb (s .idle) 32766
+headGood s = cellCount (s .cells) && leb (s .idle) 32766
 
 abbrev pub rulesGood : Live → Bool
 rulesGood s = passes (limitsAnswer (s .cells) rows (s .settings .of) 0)
@@ -47,7 +48,7 @@ module _ (s : Live) where
 
 -- The parts of a good state.
 pub record GoodState (s : Live) : Type 0 where
-  pub cells : (leb 3 (s .cells) && leb (s .cells) 12) ≡ true
+  pub cells : cellCount (s .cells) ≡ true
   pub idle : leb (s .idle) 32766 ≡ true
   pub rules : rulesGood s ≡ true
   pub states : statesGood s ≡ true
@@ -59,7 +60,7 @@ parts s g =
     let (a, counts) = and-true (goodRules s && statesGood s) (goodTotals (s .totals)) g in
     let (b, states) = and-true (goodRules s) (statesGood s) a in
     let (h, rules) = and-true (headGood s) (rulesGood s) b in
-    let (cells, idle) = and-true (leb 3 (s .cells) && leb (s .cells) 12) (leb (s .idle) 32766) h in
+    let (cells, idle) = and-true (cellCount (s .cells)) (leb (s .idle) 32766) h in
     record { cells = cells; idle = idle; rules = rules; states = states; counts = counts }
 
 pub whole : (s : Live) → GoodState s → good s ≡ true

@@ -9,7 +9,7 @@ use lib.ListN.{length}
 use borrow.Author.Tests.{leb-true}
 use Rattle.refusals.specs.Refusals.{Answer, answer, refused, orKept, passes}
 use Rattle.rules.specs.Table.{rows}
-use Rattle.rules.specs.Samples.{Sample, I16, readingsOf}
+use Rattle.rules.specs.Samples.{Sample, I16, cellCount, readingsOf}
 use Rattle.limits.specs.Limits.{off, tabulateFrom, settingsOf, limits, limitsAnswer}
 use Rattle.refusals.proofs.Answers.{where-true}
 use Rattle.fillings.proofs.Bools.{is-true}
@@ -34,7 +34,7 @@ taken-apart s t = parts s (is-true (good s) t)
 pub begun-good : (n idle : ℕ) (bytes : List ℕ) → beginAnswer n idle bytes ≡ answer tt → T (good (begun n idle (settingsOf bytes)))
 unfolding beginAnswer
 begun-good n idle bytes h =
-    let a = where-true (leb 3 n && leb n 12) 3 0 _ h in
+    let a = where-true (cellCount n) 3 0 _ h in
     let b = where-true (leb idle 32766) 4 0 _ (a .1) in
     let c = where-true (eqb (length bytes) 160) 6 0 _ (b .1) in
     holds (begun n idle (settingsOf bytes))

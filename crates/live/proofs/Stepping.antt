@@ -12,9 +12,9 @@ use Rattle.refusals.specs.declared.Refusal.{Refusal}
 use Rattle.refusals.specs.Refusals.{Answer, answer, refused, refusal, orKept}
 use Rattle.rules.specs.declared.Settings.{Settings}
 use Rattle.rules.specs.declared.Readings.{Readings}
-use Rattle.rules.specs.Samples.{Sample, readingsOf}
+use Rattle.rules.specs.Samples.{Sample, cellCount, readingsOf}
 use Rattle.limits.specs.Limits.{off, tabulateFrom, settingsOf, settingsIf, ruleSetAnswer}
-use Rattle.readings.specs.Answers.{readAnswer}
+use Rattle.samples.specs.Answers.{readAnswer}
 use Rattle.fillings.specs.Charge.{inward, outward}
 use Rattle.report.specs.declared.Totals.{Totals}
 use Rattle.states.specs.declared.States.{States}
@@ -71,15 +71,15 @@ module _ (n idle : ℕ) (bytes : List ℕ) where
       let k : ss .of ≡ settingsOf bytes = rw (← h) at f in
       (sym a, rw (a, ← k) e)
 
-  pub few-cells : (leb 3 n && leb n 12) ≡ false → beginAnswer n idle bytes ≡ refused 3 0
+  pub few-cells : cellCount n ≡ false → beginAnswer n idle bytes ≡ refused 3 0
   unfolding beginAnswer
   few-cells h = rw h
 
-  pub idle-over : (leb 3 n && leb n 12) ≡ true → 32766 < idle → beginAnswer n idle bytes ≡ refused 4 0
+  pub idle-over : cellCount n ≡ true → 32766 < idle → beginAnswer n idle bytes ≡ refused 4 0
   unfolding beginAnswer
   idle-over h l = rw (h, lt-leb idle 32766 l)
 
-  pub as-rules : (leb 3 n && leb n 12) ≡ true → idle ≤ 32766 → beginAnswer n idle bytes ≡ ruleSetAnswer n bytes
+  pub as-rules : cellCount n ≡ true → idle ≤ 32766 → beginAnswer n idle bytes ≡ ruleSetAnswer n bytes
   unfolding beginAnswer ruleSetAnswer
   as-rules h l = rw (h, le-leb idle 32766 l)
 

@@ -7,7 +7,7 @@ use lib.Dec.{ltb, leb, eqb}
 use lib.ListN.{length}
 use Rattle.refusals.specs.Refusals.{Answer, answer, refused, refusal, orKept}
 use Rattle.rules.specs.Table.{rows}
-use Rattle.rules.specs.Samples.{Sample}
+use Rattle.rules.specs.Samples.{Sample, cellCount}
 use Rattle.limits.specs.Limits.{limitsAnswer, settingsOf, tabulateFrom, off}
 use Rattle.flags.specs.declared.Flag.{Flag}
 use Rattle.flags.specs.declared.Flag.the-variants.{Unknown}
@@ -35,7 +35,7 @@ answerOfFed (Refused why) = refusal why
 -- A beginning: refusals 3, 4, 6 and 7 in that order.
 unfoldable pub beginAnswer : ℕ → ℕ → List ℕ → Answer (Unit {0})
 beginAnswer n idle bytes =
-    cond (leb 3 n && leb n 12)
+    cond (cellCount n)
     (cond (leb idle 32766) (cond (eqb (length bytes) 160) (limitsAnswer n rows (settingsOf bytes) 0) (refused 6 0)) (refused 4 0))
     (refused 3 0)
 

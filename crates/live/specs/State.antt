@@ -6,7 +6,7 @@ use lib.Dec.{leb}
 use Rattle.refusals.specs.Refusals.{Answer, answer, refused, passes}
 use Rattle.rules.specs.declared.Setting.{Setting}
 use Rattle.rules.specs.Table.{rows}
-use Rattle.rules.specs.Samples.{Sample, readingsOf}
+use Rattle.rules.specs.Samples.{Sample, cellCount, readingsOf}
 use Rattle.limits.specs.Limits.{limitsAnswer}
 use Rattle.fillings.specs.Charge.{inward, outward}
 use Rattle.report.specs.declared.Totals.{Totals}
@@ -18,7 +18,7 @@ use Rattle.live.specs.declared.Live.{Live}
 
 -- The head and the rules of a state are within their limits.
 abbrev pub goodRules : Live → Bool
-goodRules s = leb 3 (s .cells) && leb (s .cells) 12 && leb (s .idle) 32766 && passes (limitsAnswer (s .cells) rows (s .settings .of) 0)
+goodRules s = cellCount (s .cells) && leb (s .idle) 32766 && passes (limitsAnswer (s .cells) rows (s .settings .of) 0)
 
 -- In and out are at most 32,768 × ticks, unseen at most ticks.
 abbrev pub goodTotals : Totals → Bool

@@ -3,6 +3,7 @@ ghost use mathlib.Core.Path.{_≡_};
 ghost use mathlib.Core.Bool.{_&&_};
 ghost use lib.Dec.{leb};
 ghost use Rattle.refusals.specs.Refusals.{passes};
+ghost use Rattle.rules.specs.Samples.{cellCount};
 ghost use Rattle.rules.specs.Table.{rows};
 ghost use Rattle.limits.specs.Limits.{limitsAnswer};
 ghost use Rattle.live.specs.State.{good};
@@ -10,11 +11,12 @@ use crate::Live;
 use limits::Limited;
 use rules::Settings;
 use rules::and;
+use rules::is_cell_count;
 
 fn head_within(cells: u8, idle: u16) -> bool
-    ensures { λ r. ⌜ r ≡ (leb 3 cells && leb cells 12 && leb idle 32766) ⌝ }
+    ensures { λ r. ⌜ r ≡ (cellCount cells && leb idle 32766) ⌝ }
 {
-    and(and(3 <= cells, cells <= 12), idle <= 32766)
+    and(is_cell_count(cells), idle <= 32766)
 }
 
 fn rules_within(cells: u8, settings: Settings) -> bool

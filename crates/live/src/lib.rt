@@ -19,6 +19,7 @@ use limits::Limited;
 use refusals::Refusal;
 use report::Totals;
 use rules::Settings;
+use rules::is_cell_count;
 use states::States;
 use steps::refuse;
 use steps::take_hole;
@@ -50,10 +51,7 @@ pub fn begin(cells: u8, idle: u16, rules: &[u8]) -> Step
     ensures answer { λ r. ⌜ answerOfFed (r .answer) ≡ beginAnswer cells idle (now (rules .entry)) ⌝ }
     ensures state { λ r. ⌜ r .state ≡ beginState cells idle (now (rules .entry)) ⌝ }
 {
-    if cells < 3 {
-        return refuse_begin(Refusal::CellCount);
-    }
-    if 12 < cells {
+    if !is_cell_count(cells) {
         return refuse_begin(Refusal::CellCount);
     }
     if 32766 < idle {

@@ -11,10 +11,10 @@ ghost use Rattle.live.specs.Steps.{Stepped, countSample, countHole};
 use crate::Fed;
 use crate::Live;
 use crate::Step;
-use readings::Read;
 use refusals::Refusal;
 use report::Totals;
 use rules::Readings;
+use samples::Read;
 
 // A refused call answers the state that it was given.
 pub(crate) fn refuse(why: Refusal, state: Live) -> Step
@@ -120,7 +120,7 @@ pub(crate) fn take_sample(
     requires { ⌜ good state ≡ true ⌝ }
     ensures { λ r. ⌜ Stepped r (sampleAnswer state tick (record { current = current; board = board; volts = now (volts .entry); temps = now (temps .entry) })) (withSample state (record { current = current; board = board; volts = now (volts .entry); temps = now (temps .entry) })) state ⌝ }
 {
-    match readings::read_sample(state.cells, current, board, volts, temps) {
+    match samples::read_sample(state.cells, current, board, volts, temps) {
         Read::Refused(why) => refuse(why, state),
         Read::Taken(readings) => take_readings(state, tick, current, readings),
     }

@@ -1,6 +1,7 @@
 // The sixteen rules (paper 01, 'The sixteen rules'): their table, what they read of a sample, and what one evaluation of a
 // rule finds.
 ghost use mathlib.Core.Path.{_≡_};
+ghost use Rattle.rules.specs.Samples.{cellCount};
 ghost use Rattle.rules.specs.Table.{rows, rowAt};
 
 mod evaluation;
@@ -245,6 +246,13 @@ pub struct Setting {
 
 pub struct Settings {
     pub of: [Setting; 16],
+}
+
+// Whether a pack has this many cells: 3 to 12.
+pub fn is_cell_count(cells: u8) -> bool
+    ensures { λ r. ⌜ r ≡ cellCount cells ⌝ }
+{
+    and(3 <= cells, cells <= 12)
 }
 
 // What the rules read of a sample.

@@ -1,3 +1,3 @@
-pub mod Runs
+pub mod Found
+pub mod Numbers
 pub mod Answers
-pub mod Folded

@@ -5,14 +5,14 @@ use borrow.Author.Needs.{needs}
 use Rattle.live.proofs.checks.head_within.Statement.{statement}
 use Rattle.live.proofs.checks.head_within.Tie as tie
 
+is-cell-count-requires : tie.Need-is-cell-count-requires
+is-cell-count-requires c κs = search needs
+
 and-requires : tie.Need-and-requires
 and-requires c κs = search needs
 
-and-requires-2 : tie.Need-and-requires-2
-and-requires-2 c κs = search needs
-
 returns : tie.Need-returns
-returns c = c .and2 .ensures ∙ ap (λ (b : Bool). b && leb (c .before .before .args .idle) 32766) (c .before .and .ensures)
+returns c = c .and .ensures ∙ ap (λ (b : Bool). b && leb (c .before .before .args .idle) 32766) (c .before .is-cell-count .ensures)
 
 pub head-within-spec : {M : Type 1} → statement M
-head-within-spec = tie.close (tie.spec and-requires and-requires-2 returns)
+head-within-spec = tie.close (tie.spec is-cell-count-requires and-requires returns)

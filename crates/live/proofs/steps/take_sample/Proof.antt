@@ -2,7 +2,7 @@ use mathlib.Core.Path.{_≡_, sym, ap, _∙_}
 use denote.Ref.{now}
 use mir.Syntax.{w16}
 use mir.ValLaws.{toZ-ofZ}
-use Rattle.readings.specs.Answers.{answerOfRead, readAnswer}
+use Rattle.samples.specs.Answers.{answerOfRead, readAnswer}
 use Rattle.live.proofs.Stepping.{refuses, unread, read}
 use borrow.Author.Needs.{needs}
 use Rattle.live.proofs.steps.take_sample.Statement.{statement}
