@@ -2,7 +2,6 @@
 use Prim.Native.Nat.{ℕ, _*_}
 use mathlib.Core.Bool.{cond, _&&_}
 use mathlib.Core.List.{List}
-use lib.IntN.{pos, _+ℤ_, _-ℤ_}
 use lib.Dec.{ltb, leb, eqb}
 use lib.ListN.{length}
 use Rattle.refusals.specs.Refusals.{Answer, answer, refused, refusal, orKept}
@@ -17,7 +16,7 @@ use Rattle.flags.specs.Outputs.{outputOf, drivers, statusesOf}
 use Rattle.fillings.specs.PossibleStates.{tabulate}
 use Rattle.report.specs.declared.Totals.{Totals}
 use Rattle.states.specs.Readings.{allFlags}
-use Rattle.totals.specs.Totals.{Bounds}
+use Rattle.totals.specs.Totals.{Bounds, boundsFrom}
 use Rattle.live.specs.declared.Live.{Live}
 use Rattle.live.specs.declared.Fed.{Fed}
 use Rattle.live.specs.declared.Fed.the-variants.{Taken, Refused}
@@ -87,11 +86,6 @@ abbrev pub answerOfTotals : TotalsRead → Answer Totals
 answerOfTotals (totals.Counted t) = answer t
 answerOfTotals (totals.Refused why) = refusal why
 
--- The bounds of the net charge: in − out − 32,768 × unseen and in − out + 32,767 × unseen.
+-- The bounds of the net charge.
 abbrev pub netRead : Live → Answer Bounds
-netRead s =
-    ofGood s
-    (record {
-      least = pos (s .totals .«charge_in») -ℤ pos (s .totals .«charge_out») -ℤ pos (32768 * s .totals .unseen);
-      greatest = pos (s .totals .«charge_in») -ℤ pos (s .totals .«charge_out») +ℤ pos (32767 * s .totals .unseen);
-    })
+netRead s = ofGood s (boundsFrom (s .totals .«charge_in») (s .totals .«charge_out») (s .totals .unseen))

@@ -1,7 +1,7 @@
 // The bounds of a net charge, from totals and of an accepted trace.
 ghost use mathlib.Core.Path.{_≡_};
 ghost use Prim.Native.Nat.{_*_, _≤_};
-ghost use lib.IntN.{pos, _+ℤ_, _-ℤ_};
+ghost use Rattle.fillings.specs.Charge.{leastFrom, greatestFrom};
 ghost use Rattle.refusals.specs.Refusals.{answer};
 ghost use Rattle.trace.specs.Acceptance.{Parsed, acceptAnswer};
 ghost use Rattle.totals.specs.Totals.{countable, netOf, netAnswer, answerOfNet};
@@ -15,7 +15,7 @@ use trace::Layout;
 // The bounds from the charge and the unseen ones of at most 4,294,967,295 ticks.
 fn bounds(charge_in: u64, charge_out: u64, unseen: u64) -> NetCharge
     requires { ⌜ («charge_in» ≤ 32768 * 4294967295) × («charge_out» ≤ 32768 * 4294967295) × (unseen ≤ 4294967295) ⌝ }
-    ensures { λ r. ⌜ r ≡ NetCharge.Between (pos «charge_in» -ℤ pos «charge_out» -ℤ pos (32768 * unseen)) (pos «charge_in» -ℤ pos «charge_out» +ℤ pos (32767 * unseen)) ⌝ }
+    ensures { λ r. ⌜ r ≡ NetCharge.Between (leastFrom «charge_in» «charge_out» unseen) (greatestFrom «charge_in» «charge_out» unseen) ⌝ }
 {
     let sure = charge_in as i64 - charge_out as i64;
     NetCharge::Between {
