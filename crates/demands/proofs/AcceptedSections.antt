@@ -1,20 +1,20 @@
 -- The sections of accepted bytes, and how many records they have.
-use Prim.Native.Nat.{ℕ, _+_, _-_, _*_, _/_, _<_}
+use Prim.Native.Nat.{ℕ, _-_, _*_, _/_, _<_}
 use mathlib.Core.Path.{_≡_, refl}
 use mathlib.Core.List.{List}
 use native.Mathlib.Omega.{arith}
 use native.Mathlib.Nat.{div-eq-of-eq-mul-left}
-use lib.ListN.{length, getD, List·getD-eq-default}
+use lib.ListN.{length, getD}
 use lib.Dec.{eqb}
 use Rattle.refusals.specs.Refusals.{answer}
 use Rattle.bytes_le.specs.Numbers.{u16At}
+use Rattle.bytes_le.specs.Writing.{Bytes}
+use Rattle.bytes_le.proofs.AreBytes.{Are, u16-fits}
 use Rattle.trace.specs.Records.{sampleWidth, holesIn, repliesIn, samplesIn}
 use Rattle.trace.specs.Sections.{headAnswer, rulesAnswer, sectionAnswer, walkAnswer, holesPart, repliesPart, samplesPart}
 use Rattle.trace.specs.declared.Layout.{Layout}
 use Rattle.trace.proofs.Answers.{where-true, answered}
 use Rattle.trace.proofs.Layouts.{laid, parts-are, length-part, few-holes, few-replies}
-use Rattle.ticks.proofs.Tests.{by-order}
-use Rattle.demands.specs.CutBytes.{Bytes}
 use Rattle.demands.proofs.RecordBytes.{hole-count, reply-count, sample-count}
 
 pub record Walked (s : List ℕ) (l : Layout) : Type 0 where
@@ -35,21 +35,16 @@ walked s l h =
     let j : laid s x y z ≡ l = cc in
     rw (← j) (record { head = a; count = b; cells = refl; idle = refl }))))))
 
--- A number of two bytes is below 65536.
-small-byte : (s : List ℕ) → Bytes s → (i : ℕ) → getD s i 0 < 256
-small-byte s b i =
-    by-order i (length s) (b i) (λ l. rw (List·getD-eq-default s 0 l) (omega arith))
-
-small-u16 : (s : List ℕ) → Bytes s → (at : ℕ) → u16At s at < 65536
-small-u16 s b at = omega (arith, small-byte s b at, small-byte s b (at + 1))
-
 -- No section of bytes has over 65535 records.
 module _ (s : List ℕ) (b : Bytes s) (l : Layout) (ok : walkAnswer s ≡ answer l) where
+  small-u16 : (at : ℕ) → u16At s at < 65536
+  small-u16 at = let all : Are s = record { bytes = b } in u16-fits all at
+
   pub holes-fit : length (holesIn (holesPart s l)) < 65536
-  holes-fit = omega (arith, hole-count (holesPart s l), few-holes (parts-are s l ok) (small-u16 s b 166))
+  holes-fit = omega (arith, hole-count (holesPart s l), few-holes (parts-are s l ok) (small-u16 166))
 
   pub replies-fit : length (repliesIn (repliesPart s l)) < 65536
-  replies-fit = omega (arith, reply-count (repliesPart s l), few-replies (parts-are s l ok) (small-u16 s b (l .«holes_end»)))
+  replies-fit = omega (arith, reply-count (repliesPart s l), few-replies (parts-are s l ok) (small-u16 (l .«holes_end»)))
 
   pub samples-fit : length (samplesIn (l .cells) (samplesPart s l)) < 65536
   samples-fit =
@@ -58,4 +53,4 @@ module _ (s : List ℕ) (b : Bytes s) (l : Layout) (ok : walkAnswer s ≡ answer
       let w : ℕ = sampleWidth (l .cells) in
       let k : length (samplesPart s l) ≡ u16At s (l .«replies_end») * w = omega arith in
       let j : length (samplesPart s l) / w ≡ u16At s (l .«replies_end») = div-eq-of-eq-mul-left (omega arith) k in
-      omega (arith, sample-count (l .cells) (samplesPart s l), small-u16 s b (l .«replies_end»))
+      omega (arith, sample-count (l .cells) (samplesPart s l), small-u16 (l .«replies_end»))

@@ -7,6 +7,7 @@ use lib.ListN.{length, getD, take, drop, take-append-drop}
 use lib.Seq.{length-take-le}
 use Rattle.refusals.specs.Refusals.{answer}
 use Rattle.bytes_le.specs.Numbers.{u16At}
+use Rattle.bytes_le.specs.Writing.{Bytes}
 use Rattle.limits.specs.Limits.{settingsOf}
 use Rattle.limits.specs.Limits as L
 use Rattle.trace.specs.Records.{Hole, Reply, Stamped, sampleWidth, holesIn, repliesIn, samplesIn}
@@ -22,7 +23,7 @@ use Rattle.ticks.proofs.AscendingHoles.{ascending}
 use Rattle.ticks.proofs.Places.{place-start}
 use Rattle.ticks.proofs.AcceptedBytes.{Checks, checks, accepted}
 use Rattle.ticks.proofs.Cuts.{cut-holds}
-use Rattle.demands.specs.CutBytes.{holeBytes, cutBytes, Bytes, CutBytes}
+use Rattle.demands.specs.CutBytes.{holeBytes, cutBytes, CutBytes}
 use Rattle.demands.proofs.StillBytes.{still-bytes}
 use Rattle.demands.proofs.RecordBytes.{length-hole-bytes, holes-written, length-replies, replies-cut, length-samples, samples-cut}
 use Rattle.demands.proofs.CutRecords.{First, first-fewer, fewer-holes, first-replies, first-samples}

@@ -7,7 +7,6 @@ pub mod Demand3
 pub mod OneRun
 pub mod Demand2
 pub mod Examples
-pub mod ByteLists
 pub mod WrittenSections
 pub mod Spaced
 pub mod RecordBytes

@@ -7,11 +7,11 @@ use native.Mathlib.Nat.{mul-comm, div-eq-of-eq-mul-left, le-div-iff-mul-le}
 use lib.ListN.{length, take, drop, length-append, take-append-drop}
 use lib.Seq.{length-take-le}
 use Rattle.bytes_le.specs.Numbers.{u16At, u32At, i16At}
-use Rattle.report.specs.Bytes.{bytesOf}
+use Rattle.bytes_le.specs.Writing.{bytesOf}
 use Rattle.trace.specs.Records.{Hole, holesFrom, sampleWidth, stampedAt, holesIn, repliesIn, samplesIn}
 use Rattle.ticks.proofs.AscendingHoles.{Ascending}
 use Rattle.demands.specs.CutBytes.{holeBytes}
-use Rattle.demands.proofs.ByteLists.{length-bytes-four, u32-written, u16-first, u32-first, bytes-first}
+use Rattle.bytes_le.proofs.ByteLists.{length-bytes, u32-written, u16-first, u32-first, bytes-first}
 use Rattle.demands.proofs.Spaced.{spaced, length-spaced, take-spaced, same-spaced, u16s-spaced, i16s-spaced, holeAt, holes-spaced, replyAt, replies-spaced, samples-spaced}
 
 pub length-hole-bytes : (hs : List Hole) → length (holeBytes hs) ≡ length hs * 8
@@ -20,7 +20,7 @@ length-hole-bytes [] = refl
 length-hole-bytes (h ∷ hs) =
     let a = length-append (bytesOf 4 (h .first) ++ bytesOf 4 (h .last)) (holeBytes hs) in
     let b = length-append (bytesOf 4 (h .first)) (bytesOf 4 (h .last)) in
-    omega (arith, length-hole-bytes hs, length-bytes-four (h .first), length-bytes-four (h .last))
+    omega (arith, length-hole-bytes hs, length-bytes 4 (h .first), length-bytes 4 (h .last))
 
 -- The hole that is read where its bytes stand, and the holes.
 hole-written : (p r : List ℕ) (h : Hole) (at : ℕ) → length p ≡ at → h .first ≤ h .last → h .last < 0xFFFFFFFF
@@ -28,7 +28,7 @@ hole-written : (p r : List ℕ) (h : Hole) (at : ℕ) → length p ≡ at → h 
 hole-written p r h at e a b =
     let q : List ℕ = p ++ bytesOf 4 (h .first) in
     let s : List ℕ = q ++ bytesOf 4 (h .last) ++ r in
-    let i : length q ≡ at + 4 = omega (arith, length-append p (bytesOf 4 (h .first)), length-bytes-four (h .first)) in
+    let i : length q ≡ at + 4 = omega (arith, length-append p (bytesOf 4 (h .first)), length-bytes 4 (h .first)) in
     let z : s ≡ q ++ (bytesOf 4 (h .last) ++ r) = append-assoc q (bytesOf 4 (h .last)) r in
     let first : u32At s at ≡ h .first = ap (λ x. u32At x at) z ∙ u32-written p (bytesOf 4 (h .last) ++ r) at (h .first) e (omega arith) in
     let last : u32At s (at + 4) ≡ h .last = u32-written q r (at + 4) (h .last) i (omega arith) in
@@ -41,7 +41,7 @@ holes-after p (h ∷ hs) at low e (a, b, c, d) =
     let q : List ℕ = p ++ bytesOf 4 (h .first) in
     let r : List ℕ = q ++ bytesOf 4 (h .last) in
     let i = length-append p (bytesOf 4 (h .first)) in
-    let j : length r ≡ at + 8 = omega (arith, length-append q (bytesOf 4 (h .last)), length-bytes-four (h .first), length-bytes-four (h .last)) in
+    let j : length r ≡ at + 8 = omega (arith, length-append q (bytesOf 4 (h .last)), length-bytes 4 (h .first), length-bytes 4 (h .last)) in
     let z : p ++ holeBytes (h ∷ hs) ≡ r ++ holeBytes hs = simp append-assoc in
     ap (λ s. holesFrom s (suc (length hs)) at) z
     ∙ ap₂ (λ x l. x ∷ l) (hole-written p (holeBytes hs) h at e b c) (holes-after r hs (at + 8) (suc (h .last)) j d)

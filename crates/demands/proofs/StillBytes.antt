@@ -1,58 +1,19 @@
 -- The bytes of a cut trace are bytes.
-use Prim.Native.Nat.{ℕ, zero, suc, _-_, _*_, _/_, _%_, _<_}
+use Prim.Native.Nat.{ℕ, _-_, _*_}
 use mathlib.Core.List.{List, [], _∷_, _++_}
-use native.Mathlib.Omega.{arith}
-use lib.ListN.{length, take, drop}
-use Rattle.report.specs.Bytes.{bytesOf}
+use lib.ListN.{length}
+use Rattle.bytes_le.specs.Writing.{bytesOf, Bytes}
+use Rattle.bytes_le.proofs.AreBytes.{Are, none, append, taken, dropped, number}
 use Rattle.trace.specs.Records.{Hole, sampleWidth}
 use Rattle.trace.specs.Sections.{part, repliesPart, samplesPart}
 use Rattle.trace.specs.Acceptance.{Parsed}
 use Rattle.trace.specs.declared.Layout.{Layout}
 use Rattle.ticks.specs.Traces.{Trace, traceOf}
 use Rattle.ticks.specs.Cut.{cutAt}
-use Rattle.demands.specs.CutBytes.{holeBytes, cutBytes, Bytes}
-
--- A list of bytes.
-record Are (s : List ℕ) : Type 0 where
-  bytes : Bytes s
-
-none : Are []
-none = record { bytes = λ i h. absurd (omega arith) }
-
-one-more : (x : ℕ) {s : List ℕ} → x < 256 → Are s → Are (x ∷ s)
-one-more x {s} a b = record { bytes = each }
-  where
-    each : Bytes (x ∷ s)
-    each zero h = a
-    each (suc i) h = b .bytes i (omega arith)
-
-first : {x : ℕ} {s : List ℕ} → Are (x ∷ s) → x < 256
-first a = a .bytes 0 (omega arith)
-
-rest : {x : ℕ} {s : List ℕ} → Are (x ∷ s) → Are s
-rest a = record { bytes = λ i h. a .bytes (suc i) (omega arith) }
-
-append : {s t : List ℕ} → Are s → Are t → Are (s ++ t)
-append {s = []} a b = b
-append {s = x ∷ s} a b = one-more x (first a) (append (rest a) b)
-
-taken : (n : ℕ) {s : List ℕ} → Are s → Are (take n s)
-taken zero a = none
-taken (suc n) {s = []} a = none
-taken (suc n) {s = x ∷ s} a = one-more x (first a) (taken n (rest a))
-
-dropped : (n : ℕ) {s : List ℕ} → Are s → Are (drop n s)
-dropped zero a = a
-dropped (suc n) {s = []} a = none
-dropped (suc n) {s = x ∷ s} a = dropped n (rest a)
+use Rattle.demands.specs.CutBytes.{holeBytes, cutBytes}
 
 between : (a e : ℕ) {s : List ℕ} → Are s → Are (part s a e)
 between a e b = taken (e - a) (dropped a b)
-
-number : (k n : ℕ) → Are (bytesOf k n)
-unfolding bytesOf
-number zero n = none
-number (suc k) n = one-more (n % 256) (omega arith) (number k (n / 256))
 
 holes : (hs : List Hole) → Are (holeBytes hs)
 unfolding holeBytes

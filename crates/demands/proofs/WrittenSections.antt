@@ -8,13 +8,13 @@ use lib.Seq.{take-at, drop-at}
 use borrow.Author.Tests.{le-ltb}
 use Rattle.refusals.specs.Refusals.{answer}
 use Rattle.bytes_le.specs.Numbers.{u16At}
-use Rattle.report.specs.Bytes.{bytesOf}
+use Rattle.bytes_le.specs.Writing.{bytesOf}
 use Rattle.trace.specs.Records.{sampleWidth}
 use Rattle.trace.specs.Sections.{Section, headAnswer, rulesAnswer, sectionAnswer, walkAnswer, part, rulesPart, holesPart, repliesPart, samplesPart}
 use Rattle.trace.specs.declared.Layout.{Layout}
 use Rattle.trace.proofs.Layouts.{laid}
 use Rattle.trace.proofs.Walks.{Begun, whole}
-use Rattle.demands.proofs.ByteLists.{length-bytes-two, u16-written, bytes-first}
+use Rattle.bytes_le.proofs.ByteLists.{length-bytes, u16-written, bytes-first}
 
 -- The section of k records of a width that starts at the byte `at`.
 abbrev pub sectionAt : ℕ → ℕ → ℕ → Section
@@ -32,7 +32,7 @@ pub record Stands (s : List ℕ) (at w k : ℕ) (q : List ℕ) : Type 0 where
 
 module _ (p q : List ℕ) (at w k : ℕ) (place : length p ≡ at) (fits : Fits w k q) where
   long-count : length (p ++ bytesOf 2 k) ≡ at + 2
-  long-count = omega (arith, length-append p (bytesOf 2 k), length-bytes-two k)
+  long-count = omega (arith, length-append p (bytesOf 2 k), length-bytes 2 k)
 
   long-section : length (p ++ bytesOf 2 k ++ q) ≡ at + 2 + k * w
   long-section = omega (arith, length-append (p ++ bytesOf 2 k) q, long-count, fits .long)

@@ -2,9 +2,9 @@
 use Prim.Native.Nat.{ℕ, _*_, _<_}
 use mathlib.Core.Path.{_≡_}
 use mathlib.Core.List.{List, [], _∷_, _++_}
-use lib.ListN.{length, getD, take}
+use lib.ListN.{length, take}
 use Rattle.refusals.specs.Refusals.{answer}
-use Rattle.report.specs.Bytes.{bytesOf}
+use Rattle.bytes_le.specs.Writing.{bytesOf, Bytes}
 use Rattle.trace.specs.Records.{Hole, sampleWidth}
 use Rattle.trace.specs.Sections.{repliesPart, samplesPart}
 use Rattle.trace.specs.Acceptance.{Parsed, acceptAnswer}
@@ -23,10 +23,6 @@ cutBytes s w t =
     ++ bytesOf 2 (length (cutAt (traceOf s w) t .holes)) ++ holeBytes (cutAt (traceOf s w) t .holes)
     ++ bytesOf 2 (length (cutAt (traceOf s w) t .replies)) ++ take (10 * length (cutAt (traceOf s w) t .replies)) (repliesPart s (w .layout))
     ++ bytesOf 2 (length (cutAt (traceOf s w) t .samples)) ++ take (sampleWidth (w .layout .cells) * length (cutAt (traceOf s w) t .samples)) (samplesPart s (w .layout))
-
--- Each number of a list is a byte.
-abbrev pub Bytes : List ℕ → Type 0
-Bytes s = (i : ℕ) → i < length s → getD s i 0 < 256
 
 -- They are bytes, they are accepted, and their trace is the cut trace.
 abbrev pub CutBytes : Type 0

@@ -1,0 +1,33 @@
+-- What stands at equal distances.
+use Prim.Native.Nat.{ℕ, zero, suc, _+_, _-_, _*_, _≤_, _<_}
+use mathlib.Core.Path.{_≡_, refl, ap, ap₂}
+use mathlib.Core.List.{_∷_}
+use native.Mathlib.Omega.{arith}
+use native.Mathlib.Nat.{suc-mul}
+use lib.ListN.{length, take}
+use Rattle.bytes_le.specs.Numbers.{spaced}
+
+module _ {A : Type 0} (f : ℕ → A) (w : ℕ) where
+  pub spaced-next : (k at : ℕ) → 0 < k → spaced f w k at ≡ f at ∷ spaced f w (k - 1) (at + w)
+  unfolding spaced
+  spaced-next zero at h = absurd (omega arith)
+  spaced-next (suc k) at h = let e : suc k - 1 ≡ k = omega arith in rw e
+
+  pub length-spaced : (k at : ℕ) → length (spaced f w k at) ≡ k
+  unfolding spaced
+  length-spaced zero at = refl
+  length-spaced (suc k) at = ap suc (length-spaced k (at + w))
+
+  pub take-spaced : (k n at : ℕ) → k ≤ n → take k (spaced f w n at) ≡ spaced f w k at
+  unfolding spaced
+  take-spaced zero n at h = refl
+  take-spaced (suc k) zero at h = absurd (omega arith)
+  take-spaced (suc k) (suc n) at h = ap (λ l. f at ∷ l) (take-spaced k n (at + w) (omega arith))
+
+  -- Two that agree where what they read ends by m.
+  pub same-spaced : (g : ℕ → A) (m : ℕ) → ((x : ℕ) → x + w ≤ m → f x ≡ g x) → (k at : ℕ) → at + k * w ≤ m → spaced f w k at ≡ spaced g w k at
+  unfolding spaced
+  same-spaced g m same zero at h = refl
+  same-spaced g m same (suc k) at h =
+      let e = suc-mul k w in
+      ap₂ (λ x l. x ∷ l) (same at (omega arith)) (same-spaced g m same k (at + w) (omega arith))
