@@ -1,5 +1,5 @@
 -- What stands at equal distances.
-use Prim.Native.Nat.{ℕ, zero, suc, _+_, _-_, _*_, _≤_, _<_}
+use Prim.Native.Nat.{ℕ, zero, suc, _+_, _-_, _*_, _≤_, _<_, min}
 use mathlib.Core.Path.{_≡_, refl, ap, ap₂}
 use mathlib.Core.List.{_∷_}
 use native.Mathlib.Omega.{arith}
@@ -18,11 +18,13 @@ module _ {A : Type 0} (f : ℕ → A) (w : ℕ) where
   length-spaced zero at = refl
   length-spaced (suc k) at = ap suc (length-spaced k (at + w))
 
-  pub take-spaced : (k n at : ℕ) → k ≤ n → take k (spaced f w n at) ≡ spaced f w k at
+  pub take-spaced : (j k at : ℕ) → take j (spaced f w k at) ≡ spaced f w (min k j) at
   unfolding spaced
-  take-spaced zero n at h = refl
-  take-spaced (suc k) zero at h = absurd (omega arith)
-  take-spaced (suc k) (suc n) at h = ap (λ l. f at ∷ l) (take-spaced k n (at + w) (omega arith))
+  take-spaced zero k at = let e : min k 0 ≡ 0 = omega arith in rw e
+  take-spaced (suc j) zero at = let e : min 0 (suc j) ≡ 0 = omega arith in rw e
+  take-spaced (suc j) (suc k) at =
+      let e : min (suc k) (suc j) ≡ suc (min k j) = omega arith in
+      rw e (ap (λ l. f at ∷ l) (take-spaced j k (at + w)))
 
   -- Two that agree where what they read ends by m.
   pub same-spaced : (g : ℕ → A) (m : ℕ) → ((x : ℕ) → x + w ≤ m → f x ≡ g x) → (k at : ℕ) → at + k * w ≤ m → spaced f w k at ≡ spaced g w k at

@@ -1,39 +1,19 @@
 -- The sections of accepted bytes, and how many records they have.
 use Prim.Native.Nat.{ℕ, _-_, _*_, _/_, _<_}
-use mathlib.Core.Path.{_≡_, refl}
+use mathlib.Core.Path.{_≡_}
 use mathlib.Core.List.{List}
 use native.Mathlib.Omega.{arith}
 use native.Mathlib.Nat.{div-eq-of-eq-mul-left}
-use lib.ListN.{length, getD}
-use lib.Dec.{eqb}
+use lib.ListN.{length}
 use Rattle.refusals.specs.Refusals.{answer}
 use Rattle.bytes_le.specs.Numbers.{u16At}
 use Rattle.bytes_le.specs.Writing.{Bytes}
 use Rattle.bytes_le.proofs.AreBytes.{Are, u16-fits}
 use Rattle.trace.specs.Records.{sampleWidth, holesIn, repliesIn, samplesIn}
-use Rattle.trace.specs.Sections.{headAnswer, rulesAnswer, sectionAnswer, walkAnswer, holesPart, repliesPart, samplesPart}
+use Rattle.trace.specs.Sections.{walkAnswer, holesPart, repliesPart, samplesPart}
 use Rattle.trace.specs.declared.Layout.{Layout}
-use Rattle.trace.proofs.Answers.{where-true, answered}
-use Rattle.trace.proofs.Layouts.{laid, parts-are, length-part, few-holes, few-replies}
+use Rattle.trace.proofs.Layouts.{parts-are, length-part, few-holes, few-replies}
 use Rattle.demands.proofs.RecordBytes.{hole-count, reply-count, sample-count}
-
-pub record Walked (s : List ℕ) (l : Layout) : Type 0 where
-  pub head : headAnswer s ≡ answer tt
-  pub count : rulesAnswer s ≡ answer tt
-  pub cells : l .cells ≡ getD s 1 0
-  pub idle : l .idle ≡ u16At s 2
-
-pub walked : (s : List ℕ) (l : Layout) → walkAnswer s ≡ answer l → Walked s l
-unfolding walkAnswer
-walked s l h =
-    answered (headAnswer s) _ _ h (λ u a h₁.
-    answered (rulesAnswer s) _ _ h₁ (λ v b h₂.
-    answered (sectionAnswer s 166 8) _ _ h₂ (λ x c h₃.
-    answered (sectionAnswer s (x .end) 10) _ _ h₃ (λ y d h₄.
-    answered (sectionAnswer s (y .end) (sampleWidth (getD s 1 0))) _ _ h₄ (λ z e h₅.
-    let q = where-true (eqb (z .end) (length s)) _ _ _ h₅ in
-    let j : laid s x y z ≡ l = cc in
-    rw (← j) (record { head = a; count = b; cells = refl; idle = refl }))))))
 
 -- No section of bytes has over 65535 records.
 module _ (s : List ℕ) (b : Bytes s) (l : Layout) (ok : walkAnswer s ≡ answer l) where

@@ -13,8 +13,7 @@ use Rattle.limits.specs.Limits as L
 use Rattle.trace.specs.Records.{Hole, Reply, Stamped, sampleWidth, holesIn, repliesIn, samplesIn}
 use Rattle.trace.specs.Sections.{rulesPart, repliesPart, samplesPart}
 use Rattle.trace.specs.Acceptance.{Parsed, recordsAnswer, acceptAnswer}
-use Rattle.trace.proofs.Layouts.{parts-are}
-use Rattle.trace.proofs.Walks.{Begun}
+use Rattle.trace.proofs.Layouts.{Begun, PartsAre, parts-are}
 use Rattle.trace.proofs.Outcomes as outcomes
 use Rattle.fillings.specs.Fillings.{Config}
 use Rattle.ticks.specs.Traces.{Trace, traceOf, Accepted}
@@ -27,7 +26,7 @@ use Rattle.demands.specs.CutBytes.{holeBytes, cutBytes, CutBytes}
 use Rattle.demands.proofs.StillBytes.{still-bytes}
 use Rattle.demands.proofs.RecordBytes.{length-hole-bytes, holes-written, length-replies, replies-cut, length-samples, samples-cut}
 use Rattle.demands.proofs.CutRecords.{First, first-fewer, fewer-holes, first-replies, first-samples}
-use Rattle.demands.proofs.AcceptedSections.{Walked, walked, holes-fit, replies-fit, samples-fit}
+use Rattle.demands.proofs.AcceptedSections.{holes-fit, replies-fit, samples-fit}
 use Rattle.demands.proofs.WrittenSections.{Fits, SameStart, layoutWritten, Reads, written-starts, written-reads}
 
 -- Traces whose parts are equal.
@@ -60,8 +59,8 @@ cutWhole s w t =
     }
 
 module _ (s : List ℕ) (bytes : Bytes s) {report verdicts : ℕ} (w : Parsed) (passed : Checks s report verdicts w) (ok : Accepted (traceOf s w)) (t : ℕ) where
-  sections : Walked s (w .layout)
-  sections = walked s (w .layout) (passed .walked)
+  sections : PartsAre s (w .layout)
+  sections = parts-are s (w .layout) (passed .walked)
 
   replies-first : First (cut s w t .replies) (traceOf s w .replies)
   replies-first = first-replies t (w .ticks) (traceOf s w .replies) 0 0 (ok .replies)
@@ -97,14 +96,14 @@ module _ (s : List ℕ) (bytes : Bytes s) {report verdicts : ℕ} (w : Parsed) (
       }
 
   start : length (take 166 s) ≡ 166
-  start = length-take-le 166 s (parts-are s (w .layout) (passed .walked) .long)
+  start = length-take-le 166 s (sections .long)
 
   starts : SameStart s (cutBytes s w t)
   unfolding cutBytes
   starts = subst (λ x. SameStart x (cutBytes s w t)) (take-append-drop 166 s) (written-starts (take 166 s) _ _ _ _ _ _ (drop 166 s) start)
 
   begun : Begun (cutBytes s w t)
-  begun = record { head = starts .head ∙ sections .head; rules = starts .count ∙ sections .count }
+  begun = record { head = starts .head ∙ sections .begun .head; rules = starts .count ∙ sections .begun .rules }
 
   same-cells : getD (cutBytes s w t) 1 0 ≡ w .layout .cells
   same-cells = starts .cells ∙ sym (sections .cells)

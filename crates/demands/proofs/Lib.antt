@@ -8,7 +8,6 @@ pub mod OneRun
 pub mod Demand2
 pub mod Examples
 pub mod WrittenSections
-pub mod Spaced
 pub mod RecordBytes
 pub mod CutRecords
 pub mod AcceptedSections

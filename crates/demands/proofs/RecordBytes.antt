@@ -1,18 +1,18 @@
 -- Records written as bytes, and the first records of a part.
-use Prim.Native.Nat.{ℕ, suc, _+_, _*_, _/_, _≤_, _<_}
+use Prim.Native.Nat.{ℕ, suc, _+_, _*_, _/_, _≤_, _<_, min}
 use mathlib.Core.Path.{_≡_, refl, sym, ap, ap₂, _∙_}
 use mathlib.Core.List.{List, [], _∷_, _++_, append-assoc}
 use native.Mathlib.Omega.{arith}
 use native.Mathlib.Nat.{mul-comm, div-eq-of-eq-mul-left, le-div-iff-mul-le}
 use lib.ListN.{length, take, drop, length-append, take-append-drop}
 use lib.Seq.{length-take-le}
-use Rattle.bytes_le.specs.Numbers.{u16At, u32At, i16At}
+use Rattle.bytes_le.specs.Numbers.{u16At, u32At, i16At, spaced}
+use Rattle.bytes_le.proofs.Spaced.{length-spaced, take-spaced, same-spaced}
 use Rattle.bytes_le.specs.Writing.{bytesOf}
-use Rattle.trace.specs.Records.{Hole, holesFrom, sampleWidth, stampedAt, holesIn, repliesIn, samplesIn}
+use Rattle.trace.specs.Records.{Hole, holeAt, replyAt, holesFrom, sampleWidth, stampedAt, holesIn, repliesIn, samplesIn}
 use Rattle.ticks.proofs.AscendingHoles.{Ascending}
 use Rattle.demands.specs.CutBytes.{holeBytes}
 use Rattle.bytes_le.proofs.ByteLists.{length-bytes, u32-written, u16-first, u32-first, bytes-first}
-use Rattle.demands.proofs.Spaced.{spaced, length-spaced, take-spaced, same-spaced, u16s-spaced, i16s-spaced, holeAt, holes-spaced, replyAt, replies-spaced, samples-spaced}
 
 pub length-hole-bytes : (hs : List Hole) → length (holeBytes hs) ≡ length hs * 8
 unfolding holeBytes
@@ -35,7 +35,7 @@ hole-written p r h at e a b =
     rw (first, last)
 
 holes-after : (p : List ℕ) (hs : List Hole) (at low : ℕ) → length p ≡ at → Ascending low hs → holesFrom (p ++ holeBytes hs) (length hs) at ≡ hs
-unfolding holesFrom holeBytes
+unfolding spaced holeBytes
 holes-after p [] at low e o = refl
 holes-after p (h ∷ hs) at low e (a, b, c, d) =
     let q : List ℕ = p ++ bytesOf 4 (h .first) in
@@ -52,7 +52,7 @@ holes-written hs o =
     rw e (holes-after [] hs 0 0 refl o)
 
 -- A record that is read from w bytes.
-abbrev Within {ℓ} : {A : Type ℓ} → (List ℕ → ℕ → A) → ℕ → Type ℓ
+abbrev Within : {A : Type 0} → (List ℕ → ℕ → A) → ℕ → Type 0
 Within f w = (p q : List ℕ) (at : ℕ) → at + w ≤ length p → f (p ++ q) at ≡ f p at
 
 -- The first k widths of a part that has as many.
@@ -63,18 +63,19 @@ length-cut w h part k l =
     length-take-le (w * k) part (omega arith) ∙ c
 
 -- The first k records of a part are those of its first k widths.
-spaced-cut {ℓ} : {A : Type ℓ} (f : List ℕ → ℕ → A) (w : ℕ) → 0 < w → Within f w → (part : List ℕ) (k : ℕ) → k ≤ length part / w
+spaced-cut : {A : Type 0} (f : List ℕ → ℕ → A) (w : ℕ) → 0 < w → Within f w → (part : List ℕ) (k : ℕ) → k ≤ length part / w
     → spaced (f (take (w * k) part)) w (length (take (w * k) part) / w) 0 ≡ take k (spaced (f part) w (length part / w) 0)
 spaced-cut f w h within part k l =
     let p : List ℕ = take (w * k) part in
     let q : List ℕ = drop (w * k) part in
     let long : length p ≡ k * w = length-cut w h part k l in
     let count : length p / w ≡ k = div-eq-of-eq-mul-left h long in
+    let least : min (length part / w) k ≡ k = omega arith in
     let same = same-spaced (f (p ++ q)) w (f p) (k * w) (λ x y. within p q x (omega arith)) k 0 (omega arith) in
     ap (λ x. spaced (f p) w x 0) count
     ∙ sym same
     ∙ ap (λ s. spaced (f s) w k 0) (take-append-drop (w * k) part)
-    ∙ sym (take-spaced (f part) w k (length part / w) 0 l)
+    ∙ sym (take-spaced (f part) w k (length part / w) 0 ∙ ap (λ n. spaced (f part) w n 0) least)
 
 reply-within : Within replyAt 10
 reply-within p q at h = rw (u32-first p q at (omega arith), bytes-first p q (at + 4) 6 (omega arith))
@@ -90,24 +91,20 @@ sample-within n p q at h =
     rw (
       u32-first p q at (omega arith),
       u16-first p q (at + 4) (omega arith),
-      u16-first p q (at + 6) (omega arith),
-      u16s-spaced (p ++ q) n (at + 8),
-      u16s-spaced p n (at + 8),
-      u16s-within n p q (at + 8) (omega arith),
-      i16s-spaced (p ++ q) n (at + 8 + 2 * n),
-      i16s-spaced p n (at + 8 + 2 * n),
-      i16s-within n p q (at + 8 + 2 * n) (omega arith),
+      u16-first p q (at + 4 + 2) (omega arith),
+      u16s-within n p q (at + 4 + 4) (omega arith),
+      i16s-within n p q (at + 4 + 4 + 2 * n) (omega arith),
     )
 
 -- How many records a part has.
 pub hole-count : (part : List ℕ) → length (holesIn part) ≡ length part / 8
-hole-count part = rw (holes-spaced part (length part / 8) 0) (length-spaced _ 8 (length part / 8) 0)
+hole-count part = length-spaced (holeAt part) 8 (length part / 8) 0
 
 pub reply-count : (part : List ℕ) → length (repliesIn part) ≡ length part / 10
-reply-count part = rw (replies-spaced part (length part / 10) 0) (length-spaced _ 10 (length part / 10) 0)
+reply-count part = length-spaced (replyAt part) 10 (length part / 10) 0
 
 pub sample-count : (n : ℕ) (part : List ℕ) → length (samplesIn n part) ≡ length part / sampleWidth n
-sample-count n part = rw (samples-spaced n part (length part / sampleWidth n) 0) (length-spaced _ (sampleWidth n) (length part / sampleWidth n) 0)
+sample-count n part = length-spaced (stampedAt n part) (sampleWidth n) (length part / sampleWidth n) 0
 
 -- The first k replies, and the first k samples.
 module _ (part : List ℕ) (k : ℕ) (h : k ≤ length (repliesIn part)) where
@@ -118,9 +115,7 @@ module _ (part : List ℕ) (k : ℕ) (h : k ≤ length (repliesIn part)) where
   length-replies = length-cut 10 (omega arith) part k enough-replies
 
   pub replies-cut : repliesIn (take (10 * k) part) ≡ take k (repliesIn part)
-  replies-cut =
-      rw (replies-spaced (take (10 * k) part) (length (take (10 * k) part) / 10) 0, replies-spaced part (length part / 10) 0)
-      (spaced-cut replyAt 10 (omega arith) reply-within part k enough-replies)
+  replies-cut = spaced-cut replyAt 10 (omega arith) reply-within part k enough-replies
 
 module _ (n : ℕ) (part : List ℕ) (k : ℕ) (h : k ≤ length (samplesIn n part)) where
   enough-samples : k ≤ length part / sampleWidth n
@@ -130,7 +125,4 @@ module _ (n : ℕ) (part : List ℕ) (k : ℕ) (h : k ≤ length (samplesIn n pa
   length-samples = length-cut (sampleWidth n) (omega arith) part k enough-samples
 
   pub samples-cut : samplesIn n (take (sampleWidth n * k) part) ≡ take k (samplesIn n part)
-  samples-cut =
-      let w : ℕ = sampleWidth n in
-      rw (samples-spaced n (take (w * k) part) (length (take (w * k) part) / w) 0, samples-spaced n part (length part / w) 0)
-      (spaced-cut (stampedAt n) w (omega arith) (sample-within n) part k enough-samples)
+  samples-cut = spaced-cut (stampedAt n) (sampleWidth n) (omega arith) (sample-within n) part k enough-samples

@@ -10,7 +10,7 @@ use lib.ListN.{length}
 use borrow.Author.Tests.{ltb-true, ltb-false}
 use mir.Syntax.{w16}
 use mir.Val.{sel, toZ}
-use Rattle.bytes_le.specs.Numbers.{u16At}
+use Rattle.bytes_le.specs.Numbers.{u16At, spaced}
 use Rattle.rules.specs.Samples.{Every, I16}
 use Rattle.trace.specs.Records.{Stamped, samplesFrom, sampleWidth}
 use Rattle.trace.proofs.TickBounds.{ticks-small}
@@ -49,7 +49,7 @@ signed-fits n = go (ltb n 32768) refl
     go false e = let l = ltb-false n 32768 e in omega arith
 
 pub currents : (n : ℕ) (s : List ℕ) (k at : ℕ) → Currents (samplesFrom n s k at)
-unfolding samplesFrom
+unfolding spaced
 currents n s zero at = tt
 currents n s (suc k) at = (signed-fits (u16At s (at + 4)), currents n s k (at + sampleWidth n))
 

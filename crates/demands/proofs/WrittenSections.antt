@@ -12,8 +12,8 @@ use Rattle.bytes_le.specs.Writing.{bytesOf}
 use Rattle.trace.specs.Records.{sampleWidth}
 use Rattle.trace.specs.Sections.{Section, headAnswer, rulesAnswer, sectionAnswer, walkAnswer, part, rulesPart, holesPart, repliesPart, samplesPart}
 use Rattle.trace.specs.declared.Layout.{Layout}
-use Rattle.trace.proofs.Layouts.{laid}
-use Rattle.trace.proofs.Walks.{Begun, whole}
+use Rattle.trace.proofs.Layouts.{Begun, laid}
+use Rattle.trace.proofs.Walks.{whole}
 use Rattle.bytes_le.proofs.ByteLists.{length-bytes, u16-written, bytes-first}
 
 -- The section of k records of a width that starts at the byte `at`.

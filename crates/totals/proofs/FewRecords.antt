@@ -8,11 +8,11 @@ use lib.ListN.{length, getD, take}
 use lib.Seq.{take-all}
 use Rattle.refusals.specs.Refusals.{answer}
 use Rattle.bytes_le.specs.Numbers.{u16At}
-use Rattle.trace.specs.Records.{holesIn, samplesIn, sampleWidth}
+use Rattle.bytes_le.proofs.Spaced.{length-spaced}
+use Rattle.trace.specs.Records.{holeAt, stampedAt, holesIn, samplesIn, sampleWidth}
 use Rattle.trace.specs.Sections.{walkAnswer, holesPart, samplesPart}
 use Rattle.trace.specs.declared.Layout.{Layout}
 use Rattle.trace.proofs.Layouts.{parts-are, few-holes, length-part}
-use Rattle.trace.proofs.CoverTurns.{holes-count, samples-count}
 
 module _ (s : List ℕ) (l : Layout) (h : walkAnswer s ≡ answer l) (bytes : (i : ℕ) → getD s i 0 < 256) where
   few-samples : length (samplesPart s l) / sampleWidth (l .cells) ≤ 65535
@@ -24,9 +24,9 @@ module _ (s : List ℕ) (l : Layout) (h : walkAnswer s ≡ answer l) (bytes : (i
       (omega (arith, bytes (l .«replies_end»), bytes (l .«replies_end» + 1)))
 
   pub all-samples : take 65535 (samplesIn (l .cells) (samplesPart s l)) ≡ samplesIn (l .cells) (samplesPart s l)
-  all-samples = take-all 65535 _ (rw (samples-count (l .cells) (samplesPart s l) (length (samplesPart s l) / sampleWidth (l .cells)) 0) few-samples)
+  all-samples = take-all 65535 _ (rw (length-spaced (stampedAt (l .cells) (samplesPart s l)) (sampleWidth (l .cells)) (length (samplesPart s l) / sampleWidth (l .cells)) 0) few-samples)
 
   pub all-holes : take 65535 (holesIn (holesPart s l)) ≡ holesIn (holesPart s l)
   all-holes =
       let f = few-holes (parts-are s l h) (omega (arith, bytes 166, bytes 167)) in
-      take-all 65535 _ (rw (holes-count (holesPart s l) (length (holesPart s l) / 8) 0) (omega arith))
+      take-all 65535 _ (rw (length-spaced (holeAt (holesPart s l)) 8 (length (holesPart s l) / 8) 0) (omega arith))

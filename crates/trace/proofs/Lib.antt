@@ -2,8 +2,7 @@ pub mod Answers
 pub mod Layouts
 pub mod Walks
 pub mod Nexts
-pub mod HoleTurns
-pub mod ReplyTurns
+pub mod RecordTurns
 pub mod CoverTurns
 pub mod TickBounds
 pub mod Outcomes
