@@ -1,9 +1,9 @@
 -- What stands at equal distances.
 use Prim.Native.Nat.{ℕ, zero, suc, _+_, _-_, _*_, _≤_, _<_, min}
-use mathlib.Core.Path.{_≡_, refl, ap, ap₂}
+use mathlib.Core.Path.{_≡_, refl, ap, ap₂, _∙_}
 use mathlib.Core.List.{_∷_}
 use native.Mathlib.Omega.{arith}
-use native.Mathlib.Nat.{suc-mul}
+use native.Mathlib.Nat.{suc-mul, add-assoc}
 use lib.ListN.{length, take}
 use Rattle.bytes_le.specs.Numbers.{spaced}
 
@@ -33,3 +33,10 @@ module _ {A : Type 0} (f : ℕ → A) (w : ℕ) where
   same-spaced g m same (suc k) at h =
       let e = suc-mul k w in
       ap₂ (λ x l. x ∷ l) (same at (omega arith)) (same-spaced g m same k (at + w) (omega arith))
+
+  -- The same, read n bytes on.
+  pub spaced-behind : (g : ℕ → A) (n : ℕ) → ((x : ℕ) → f (n + x) ≡ g x) → (k at : ℕ) → spaced f w k (n + at) ≡ spaced g w k at
+  unfolding spaced
+  spaced-behind g n same zero at = refl
+  spaced-behind g n same (suc k) at =
+      ap₂ (λ x l. x ∷ l) (same at) (ap (spaced f w k) (add-assoc n at w) ∙ spaced-behind g n same k (at + w))

@@ -12,9 +12,10 @@ use Rattle.refusals.specs.Refusals.{answer}
 use Rattle.rules.specs.Samples.{Sample, Every}
 use Rattle.rules.proofs.CellCount.{in-range}
 use Rattle.limits.specs.Limits.{off, tabulateFrom, settingsOf}
-use Rattle.bytes_le.specs.Numbers.{u16At, i16At, spaced}
+use Rattle.bytes_le.specs.Numbers.{u16At, i16At}
 use Rattle.bytes_le.proofs.Spaced.{length-spaced}
-use Rattle.trace.specs.Records.{Hole, Stamped, samplesFrom, sampleWidth}
+use Rattle.trace.specs.Records.{Hole, Stamped, stampedAt, samplesFrom, sampleWidth}
+use Rattle.trace.proofs.SampleBytes.{every-spaced}
 use Rattle.trace.specs.Sections.{andThen, rulesPart, samplesPart}
 use Rattle.trace.specs.Acceptance.{Parsed, acceptAnswer}
 use Rattle.fillings.specs.Fillings.{Config, seen, unseen}
@@ -46,10 +47,9 @@ abbrev Long : ℕ → List Stamped → Type 0
 Long n xs = Every (λ x. (length (x .sample .volts) ≡ n) × (length (x .sample .temps) ≡ n)) xs
 
 long : (n : ℕ) (s : List ℕ) (k at : ℕ) → Long n (samplesFrom n s k at)
-unfolding spaced
-long n s zero at = tt
-long n s (suc k) at =
-    ((length-spaced (u16At s) 2 n (at + 4 + 4), length-spaced (i16At s) 2 n (at + 4 + 4 + 2 * n)), long n s k (at + sampleWidth n))
+long n s k at =
+    every-spaced (λ x. (length (x .sample .volts) ≡ n) × (length (x .sample .temps) ≡ n)) (stampedAt n s) (sampleWidth n)
+    (λ x. (length-spaced (u16At s) 2 n (x + 4 + 4), length-spaced (i16At s) 2 n (x + 4 + 4 + 2 * n))) k at
 
 -- The next sample is not before the next tick.
 not-before : {m : ℕ} (hs : List Hole) (x : Stamped) (xs : List Stamped) (e : ℕ) → Place m hs (x ∷ xs) e → e ≤ x .tick

@@ -6,3 +6,8 @@ pub mod RecordTurns
 pub mod CoverTurns
 pub mod TickBounds
 pub mod Outcomes
+pub mod EachBytes
+pub mod SampleBytes
+pub mod RecordBytes
+pub mod WrittenSections
+pub mod WholeParts
