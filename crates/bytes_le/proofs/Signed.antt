@@ -1,10 +1,14 @@
 -- Two's complement, at any width.
-use Prim.Native.Nat.{ℕ, _-_, _≤_}
-use mathlib.Core.Path.{_≡_, ap, _∙_}
+use Prim.Native.Nat.{ℕ, suc, _-_, _≤_, _<_}
+use mathlib.Core.Bool.{Bool, true, false}
+use mathlib.Core.Path.{_≡_, refl, ap, _∙_}
 use native.Mathlib.Omega.{arith}
-use lib.IntN.{ℤ}
-use mir.Syntax.{Width}
-use mir.Val.{toZ, ofZ, SFits}
+use lib.IntN.{ℤ, pos, negsuc}
+use lib.Dec.{ltb}
+use lib.Signed.{mag}
+use borrow.Author.Tests.{ltb-true, ltb-false}
+use mir.Syntax.{Width, w16}
+use mir.Val.{sel, toZ, ofZ, SFits}
 use mir.Facts.{toZ-ofZ}
 
 pub complement : (w : Width) (m v : ℕ) → v ≤ m → toZ w (m - (m - v)) ≡ toZ w v
@@ -12,3 +16,11 @@ complement w m v h = let back : m - (m - v) ≡ v = omega arith in ap (toZ w) ba
 
 pub signed-of : {w : Width} {z : ℤ} {v u : ℕ} → SFits w z → z ≡ toZ w v → v ≡ u → toZ w (ofZ w z) ≡ toZ w u
 signed-of {w} f e h = toZ-ofZ f ∙ (e ∙ ap (toZ w) h)
+
+-- An i16 is −32,768 to 32,767, whatever its bits are.
+pub signed-small : (n : ℕ) → mag (toZ w16 n) < 32768
+signed-small n = go (ltb n 32768) refl
+  where
+    go : (b : Bool) → ltb n 32768 ≡ b → mag (sel b (pos n) (negsuc (65536 - suc n))) < 32768
+    go true e = ltb-true n 32768 e
+    go false e = let l = ltb-false n 32768 e in omega arith

@@ -5,6 +5,7 @@ ghost use lib.ListN.{getD, length};
 ghost use mir.Syntax.{w16, w32};
 ghost use mir.Val.{toZ};
 ghost use Rattle.bytes_le.specs.Numbers.{u16At, u32At, i16At, i32At};
+ghost use Rattle.bytes_le.specs.Writing.{bytesOf, putAt};
 
 fn byte_at(s: &[u8], at: usize) -> u8
     ensures { λ r. ⌜ r ≡ getD (now (s .entry)) at 0 ⌝ }
@@ -86,4 +87,25 @@ pub fn i32_at(s: &[u8], at: usize) -> i32
     ensures { λ r. ⌜ r ≡ i32At (now (s .entry)) at ⌝ }
 {
     signed32(u32_at(s, at))
+}
+
+// Puts the `count` lowest bytes of a number, the lowest first. Where they do not fit nothing is written.
+pub fn put(buffer: &mut [u8], at: usize, count: usize, v: u64)
+    ensures { λ _. ⌜ now (buffer .exit) ≡ putAt (now (buffer .entry)) at (bytesOf count v) ⌝ }
+{
+    if buffer.len() < at {
+        return;
+    }
+    if buffer.len() - at < count {
+        return;
+    }
+    let mut i = at;
+    let mut left = count;
+    let mut rest = v;
+    while left > 0 {
+        buffer[i] = (rest % 256) as u8;
+        rest = rest / 256;
+        i += 1;
+        left -= 1;
+    }
 }

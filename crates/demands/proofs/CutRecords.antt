@@ -4,7 +4,7 @@ use mathlib.Core.Path.{_≡_, refl, ap}
 use mathlib.Core.Bool.{_||_}
 use mathlib.Core.List.{List, [], _∷_}
 use native.Mathlib.Omega.{arith}
-use lib.ListN.{length, take, length-take}
+use lib.ListN.{length, take}
 use lib.Dec.{ltb, leb}
 use borrow.Author.Tests.{ltb-false, le-leb, lt-leb}
 use Rattle.refusals.specs.Refusals.{answer}
@@ -19,9 +19,6 @@ use Rattle.ticks.proofs.Cuts.{no-samples}
 -- A list that is the first part of another.
 abbrev pub First {ℓ} : {A : Type ℓ} → List A → List A → Type ℓ
 First xs ys = xs ≡ take (length xs) ys
-
-pub first-fewer {ℓ} : {A : Type ℓ} (xs ys : List A) → First xs ys → length xs ≤ length ys
-first-fewer xs ys e = omega (arith, ap length e, length-take (length xs) ys)
 
 pub fewer-holes : (t : ℕ) (hs : List Hole) → length (cutHoles t hs) ≤ length hs
 unfolding cutHoles

@@ -7,11 +7,5 @@ pub mod Demand3
 pub mod OneRun
 pub mod Demand2
 pub mod Examples
-pub mod ByteLists
-pub mod WrittenSections
-pub mod Spaced
-pub mod RecordBytes
 pub mod CutRecords
-pub mod AcceptedSections
-pub mod StillBytes
 pub mod CutBytes

@@ -4,17 +4,18 @@ use mathlib.Core.Path.{_≡_, refl, sym, ap, _∙_}
 use mathlib.Core.Bool.{Bool, true, false, cond}
 use mathlib.Core.List.{List, _++_, append-assoc}
 use native.Mathlib.Omega.{arith}
-use native.Mathlib.Nat.{add-assoc, add-zero}
+use native.Mathlib.Nat.{add-zero}
 use lib.ListN.{length, getD, drop, length-append, List·getD-append}
-use lib.Seq.{drop-at, drop-append-add, getD-drop}
-use Rattle.bytes_le.specs.Numbers.{u16At, u32At}
+use lib.Seq.{drop-at, drop-append-add}
+use Rattle.bytes_le.specs.Numbers.{u32At, u64At}
+use Rattle.bytes_le.specs.Writing.{bytesOf}
+use Rattle.bytes_le.proofs.ByteLists.{byte-behind, u32-behind, u64-behind}
 use Rattle.flags.specs.declared.RuleFlags.{RuleFlags}
 use Rattle.flags.specs.declared.Output.the-variants.{ChargeOpen, DischargeOpen, Fuse}
 use Rattle.flags.specs.Flags.{numberOf}
 use Rattle.flags.specs.Outputs.{drivers}
 use Rattle.report.specs.declared.FirstTicks.{FirstTicks}
 use Rattle.report.specs.declared.Totals.{Totals}
-use Rattle.report.specs.Bytes.{bytesOf}
 use Rattle.report.specs.Layout.{ruleBytes, rulesBytes, outputBytes, totalBytes, reportBytes}
 use Rattle.fillings.specs.PossibleStates.{tabulate}
 use Rattle.fillings.specs.Flags.{ruleFlags, alertFlag, statusFlag, firstFrom, firstPossible, firstHeld}
@@ -23,20 +24,6 @@ use Rattle.fillings.specs.Charge.{chargeIn, chargeOut, unseenTicks}
 use Rattle.ticks.specs.Traces.{Trace, shown}
 use Rattle.demands.specs.Report.{totalsAt, traceReport}
 use Rattle.demands.specs.Reading.{possibleFrom, heldFrom, ruleIn}
-use Rattle.demands.specs.Demand2.{u64At}
-
--- What is read behind the first n bytes.
-byte-behind : (s l : List ℕ) (n at : ℕ) → drop n s ≡ l → getD s (n + at) 0 ≡ getD l at 0
-byte-behind s l n at e = rw (← e) (sym (getD-drop n s at 0))
-
-u16-behind : (s l : List ℕ) (n at : ℕ) → drop n s ≡ l → u16At s (n + at) ≡ u16At l at
-u16-behind s l n at e = rw (add-assoc n at 1, byte-behind s l n at e, byte-behind s l n (at + 1) e)
-
-u32-behind : (s l : List ℕ) (n at : ℕ) → drop n s ≡ l → u32At s (n + at) ≡ u32At l at
-u32-behind s l n at e = rw (add-assoc n at 2, u16-behind s l n at e, u16-behind s l n (at + 2) e)
-
-u64-behind : (s l : List ℕ) (n at : ℕ) → drop n s ≡ l → u64At s (n + at) ≡ u64At l at
-u64-behind s l n at e = rw (add-assoc n at 4, u32-behind s l n at e, u32-behind s l n (at + 4) e)
 
 rule-long : (x : RuleFlags) (y : FirstTicks) → length (ruleBytes x y) ≡ 10
 unfolding bytesOf

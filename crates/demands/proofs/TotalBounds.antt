@@ -1,18 +1,16 @@
 -- The totals of an accepted trace fit their places in the report.
-use Prim.Native.Nat.{ℕ, zero, suc, _+_, _-_, _*_, _≤_, _<_}
-use mathlib.Core.Path.{_≡_, refl}
+use Prim.Native.Nat.{ℕ, zero, suc, _+_, _*_, _≤_, _<_}
 use mathlib.Core.Bool.{Bool, true, false, cond}
 use mathlib.Core.List.{List, [], _∷_}
 use native.Mathlib.Omega.{arith}
 use lib.IntN.{ℤ, pos, negsuc}
-use lib.Dec.{ltb, eqb}
+use lib.Dec.{eqb}
 use lib.ListN.{length}
-use borrow.Author.Tests.{ltb-true, ltb-false}
-use mir.Syntax.{w16}
-use mir.Val.{sel, toZ}
 use Rattle.bytes_le.specs.Numbers.{u16At}
+use Rattle.bytes_le.proofs.Signed.{signed-small}
 use Rattle.rules.specs.Samples.{Every, I16}
-use Rattle.trace.specs.Records.{Stamped, samplesFrom, sampleWidth}
+use Rattle.trace.specs.Records.{Stamped, stampedAt, samplesFrom, sampleWidth}
+use Rattle.trace.proofs.SampleBytes.{every-spaced}
 use Rattle.trace.proofs.TickBounds.{ticks-small}
 use Rattle.fillings.specs.Fillings.{Shown, seen, unseen}
 use Rattle.fillings.specs.Charge.{inward, outward, ofSeen, ofUnseen, total, chargeIn, chargeOut, unseenTicks}
@@ -40,18 +38,8 @@ unseen-fit tr ok =
 abbrev pub Currents : List Stamped → Type 0
 Currents xs = Every (λ x. I16 (x .sample .current)) xs
 
--- Whatever the bytes are.
-signed-fits : (n : ℕ) → I16 (toZ w16 n)
-signed-fits n = go (ltb n 32768) refl
-  where
-    go : (b : Bool) → ltb n 32768 ≡ b → I16 (sel b (pos n) (negsuc (65536 - suc n)))
-    go true e = ltb-true n 32768 e
-    go false e = let l = ltb-false n 32768 e in omega arith
-
 pub currents : (n : ℕ) (s : List ℕ) (k at : ℕ) → Currents (samplesFrom n s k at)
-unfolding samplesFrom
-currents n s zero at = tt
-currents n s (suc k) at = (signed-fits (u16At s (at + 4)), currents n s k (at + sampleWidth n))
+currents n s k at = every-spaced (λ x. I16 (x .sample .current)) (stampedAt n s) (sampleWidth n) (λ x. signed-small (u16At s (x + 4))) k at
 
 pub in-most : (z : ℤ) → I16 z → inward z ≤ 32768
 in-most (pos k) h = omega arith

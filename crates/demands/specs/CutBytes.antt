@@ -1,32 +1,23 @@
 -- The trace cut at a tick, as bytes: it can be handed to the judge.
 use Prim.Native.Nat.{ℕ, _*_, _<_}
 use mathlib.Core.Path.{_≡_}
-use mathlib.Core.List.{List, [], _∷_, _++_}
-use lib.ListN.{length, getD, take}
+use mathlib.Core.List.{List}
+use lib.ListN.{length, take}
 use Rattle.refusals.specs.Refusals.{answer}
-use Rattle.report.specs.Bytes.{bytesOf}
-use Rattle.trace.specs.Records.{Hole, sampleWidth}
+use Rattle.bytes_le.specs.Writing.{Bytes}
+use Rattle.trace.specs.Records.{sampleWidth}
 use Rattle.trace.specs.Sections.{repliesPart, samplesPart}
 use Rattle.trace.specs.Acceptance.{Parsed, acceptAnswer}
+use Rattle.trace.specs.Writing.{holeBytes, traceBytes}
 use Rattle.ticks.specs.Traces.{traceOf}
 use Rattle.ticks.specs.Cut.{cutAt}
 
--- Holes as bytes.
-unfoldable pub holeBytes : List Hole → List ℕ
-holeBytes [] = []
-holeBytes (h ∷ hs) = bytesOf 4 (h .first) ++ bytesOf 4 (h .last) ++ holeBytes hs
-
--- The bytes of an accepted trace cut at a tick: head and rules as they are, then each section with its count.
+-- The bytes of an accepted trace cut at a tick: head and rules as they are, the holes that the cut leaves, and the first replies and samples.
 unfoldable pub cutBytes : List ℕ → Parsed → ℕ → List ℕ
 cutBytes s w t =
-    take 166 s
-    ++ bytesOf 2 (length (cutAt (traceOf s w) t .holes)) ++ holeBytes (cutAt (traceOf s w) t .holes)
-    ++ bytesOf 2 (length (cutAt (traceOf s w) t .replies)) ++ take (10 * length (cutAt (traceOf s w) t .replies)) (repliesPart s (w .layout))
-    ++ bytesOf 2 (length (cutAt (traceOf s w) t .samples)) ++ take (sampleWidth (w .layout .cells) * length (cutAt (traceOf s w) t .samples)) (samplesPart s (w .layout))
-
--- Each number of a list is a byte.
-abbrev pub Bytes : List ℕ → Type 0
-Bytes s = (i : ℕ) → i < length s → getD s i 0 < 256
+    traceBytes (take 166 s) (w .layout .cells) (holeBytes (cutAt (traceOf s w) t .holes))
+    (take (10 * length (cutAt (traceOf s w) t .replies)) (repliesPart s (w .layout)))
+    (take (sampleWidth (w .layout .cells) * length (cutAt (traceOf s w) t .samples)) (samplesPart s (w .layout)))
 
 -- They are bytes, they are accepted, and their trace is the cut trace.
 abbrev pub CutBytes : Type 0

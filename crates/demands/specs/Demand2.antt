@@ -1,12 +1,12 @@
 -- Demand 2 of an accepted trace: with no hole there is one run, and flags, outputs, first ticks and verdicts are those of the run; the totals are sums over the records.
-use Prim.Native.Nat.{ℕ, suc, _+_, _*_, _<_}
+use Prim.Native.Nat.{ℕ, suc, _<_}
 use mathlib.Core.Path.{_≡_}
 use mathlib.Core.Bool.{Bool, cond}
 use mathlib.Core.List.{List, [], _∷_, map}
 use lib.Dec.{T}
 use lib.ListN.{length, take}
 use Rattle.refusals.specs.Refusals.{answer}
-use Rattle.bytes_le.specs.Numbers.{u32At}
+use Rattle.bytes_le.specs.Numbers.{u32At, u64At}
 use Rattle.rules.specs.Table.{rows}
 use Rattle.rules.specs.Samples.{Sample}
 use Rattle.rules.specs.Evaluation.{alert, status, evaluated}
@@ -28,10 +28,6 @@ use Rattle.ticks.specs.Promises.{overSamples, overHoles}
 use Rattle.demands.specs.Report.{traceReport}
 use Rattle.demands.specs.Verdicts.{tickOf, traceVerdicts}
 use Rattle.demands.specs.Reading.{byteAt, alertAt, statusAt, possibleFrom, heldFrom, ruleIn, stateUnder}
-
--- A u64 of a list of bytes.
-abbrev pub u64At : List ℕ → ℕ → ℕ
-u64At s at = u32At s at + u32At s (at + 4) * 4294967296
 
 -- The state of a rule after samples, one a tick from tick k on, from state s.
 unfoldable pub runFrom : Rule → ℕ → List Stamped → ℕ → ℕ

@@ -1,7 +1,7 @@
 -- The loop over the replies.
-use Prim.Native.Nat.{ℕ, zero, suc, _+_, _-_, _*_, _/_, _≤_, _<_}
-use mathlib.Core.Path.{_≡_, refl, sym, ap, ap₂, subst, _∙_}
-use mathlib.Core.Bool.{Bool, true, false, _||_}
+use Prim.Native.Nat.{ℕ, suc, _+_, _-_, _*_, _/_, _≤_, _<_}
+use mathlib.Core.Path.{_≡_, sym, ap, ap₂, subst, _∙_}
+use mathlib.Core.Bool.{_||_}
 use mathlib.Core.List.{List, [], _∷_, _++_, map, append-nil}
 use native.Mathlib.Omega.{arith}
 use native.Mathlib.Numerals.{add-one}
@@ -10,17 +10,17 @@ use lib.ListN.{length, take, drop, set, length-set, length-drop}
 use lib.Seq.{take-suc-set, length-take-le, take-all, append-snoc}
 use borrow.Author.Tests.{ltb-false, leb-false}
 use Rattle.refusals.specs.Refusals.{answer}
-use Rattle.bytes_le.specs.Numbers.{u32At}
-use Rattle.trace.specs.Records.{Reply, repliesFrom, repliesIn}
+use Rattle.bytes_le.specs.Numbers.{u32At, spaced}
+use Rattle.bytes_le.proofs.Spaced.{spaced-next}
+use Rattle.trace.specs.Records.{Reply, replyAt, repliesFrom, repliesIn}
 use Rattle.trace.specs.Coverage.{repliesAnswer}
 use Rattle.refusals.proofs.Answers.{unless}
-use Rattle.trace.proofs.ReplyTurns.{reply-next}
 use Rattle.ticks.proofs.Tests.{or-false}
 use Rattle.ticks.proofs.Places.{place-low}
 use Rattle.verdicts.specs.declared.Tick.{Tick}
 use Rattle.verdicts.specs.declared.Alarms.{Alarms}
 use Rattle.verdicts.specs.Verdicts.{verdictOf}
-use Rattle.demands.specs.Verdicts.{tickOf, alarmsAt, verdictOn}
+use Rattle.demands.specs.Verdicts.{alarmsAt, verdictOn}
 use Rattle.judge.specs.declared.replies.Point.{Point}
 use Rattle.walk.specs.Places.{shows}
 use Rattle.judge.specs.declared.advance.Frame.{Frame}
@@ -66,7 +66,7 @@ module _ {f : Frame} {holes samples replies : List ℕ} {words possible held ver
   verdict = verdictOn (configIn f) (shows (f .cells) samples)
 
   abbrev reply : Reply
-  reply = record { tick = u32At replies (j * 10); bytes = take 6 (drop (j * 10 + 4) replies) }
+  reply = replyAt replies (j * 10)
 
   abbrev rest : List Reply
   rest = repliesFrom replies (length replies / 10 - j - 1) (j * 10 + 10)
@@ -83,7 +83,7 @@ module _ {f : Frame} {holes samples replies : List ℕ} {words possible held ver
   pub next-reply : j < length verdicts → Next
   unfolding repliesAnswer
   next-reply h =
-      let e = reply-next replies (length replies / 10 - j) (j * 10) (some h) in
+      let e = spaced-next (replyAt replies) 10 (length replies / 10 - j) (j * 10) (some h) in
       let a : repliesAnswer (f .ticks) (reply ∷ rest) j (g .low) ≡ answer tt = ap (λ (rs : List Reply). repliesAnswer (f .ticks) rs j (g .low)) (sym e) ∙ g .left in
       let u = unless (ltb (u32At replies (j * 10)) (g .low) || leb (f .ticks) (u32At replies (j * 10))) 10 j _ a in
       let o = or-false (ltb (u32At replies (j * 10)) (g .low)) (leb (f .ticks) (u32At replies (j * 10))) (u .0) in
@@ -108,7 +108,7 @@ module _ {f : Frame} {holes samples replies : List ℕ} {words possible held ver
       let tick : x′ .stop .cursor .tick ≡ suc (u32At replies (j * 10)) = r .at ∙ t ∙ add-one _ in
       let is : v ≡ verdict reply =
       e ∙ ap (λ (i : ℕ). verdictOf (x′ .stop .shown) (x′ .alarms) (take i (drop (j * 10 + 4) replies))) six ∙ verdict-here _ _ _ _ _ _ x′ _ _ (r .there) tick in
-      let split = reply-next replies (length replies / 10 - j) (j * 10) (some h) in
+      let split = spaced-next (replyAt replies) 10 (length replies / 10 - j) (j * 10) (some h) in
       let d : length replies / 10 - j - 1 ≡ length replies / 10 - (j + 1) = omega arith in
       let a : j * 10 + 10 ≡ (j + 1) * 10 = omega arith in
       let moved : rest ≡ repliesFrom replies (length replies / 10 - (j + 1)) ((j + 1) * 10) = ap₂ (repliesFrom replies) d a in
@@ -133,7 +133,7 @@ module _ {f : Frame} {holes samples replies : List ℕ} {words possible held ver
   not-past = place-low _ _ _ (g .there .there .stands .place)
 
   pub judging-end : length verdicts ≤ j → verdicts ≡ map verdict (repliesIn replies)
-  unfolding repliesFrom
+  unfolding spaced
   judging-end h =
       let e : length replies / 10 - j ≡ 0 = omega (arith, g .count) in
       sym

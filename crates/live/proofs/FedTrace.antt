@@ -1,32 +1,31 @@
 -- Fed an accepted trace's samples and holes by tick, the feed ends with what the trace gives.
 use Prim.Native.Nat.{ℕ, zero, suc, _+_, _-_, _*_, _≤_, _<_}
 use mathlib.Core.Path.{_≡_, refl, ap, ap₂, sym, _∙_, subst}
-use mathlib.Core.Bool.{Bool, true, cond, _&&_}
 use mathlib.Core.List.{List, [], _∷_}
 use native.Mathlib.Omega.{arith}
 use native.Mathlib.Numerals.{add-one}
-use lib.Dec.{T, leb, eqb}
+use lib.Dec.{T}
 use lib.IntN.{ℤ}
 use lib.ListN.{length}
 use borrow.Author.Tests.{lt-ltb, le-ltb, eq-eqb}
-use Rattle.refusals.specs.Refusals.{answer, refused, andThen, orKept}
-use Rattle.rules.specs.declared.Setting.{Setting}
-use Rattle.rules.specs.Samples.{Sample, Every, I16, readingsOf}
+use Rattle.refusals.specs.Refusals.{answer, andThen, orKept}
+use Rattle.rules.specs.Samples.{Sample, Every}
 use Rattle.rules.proofs.CellCount.{in-range}
 use Rattle.limits.specs.Limits.{off, tabulateFrom, settingsOf}
-use Rattle.trace.specs.Records.{Hole, Stamped, u16sFrom, i16sFrom, samplesFrom, sampleWidth}
+use Rattle.bytes_le.specs.Numbers.{u16At, i16At}
+use Rattle.bytes_le.proofs.Spaced.{length-spaced}
+use Rattle.trace.specs.Records.{Hole, Stamped, stampedAt, samplesFrom, sampleWidth}
+use Rattle.trace.proofs.SampleBytes.{every-spaced}
 use Rattle.trace.specs.Sections.{rulesPart, samplesPart}
 use Rattle.trace.specs.Acceptance.{Parsed, acceptAnswer}
-use Rattle.fillings.specs.Fillings.{Config, Shown, seen, unseen}
-use Rattle.fillings.specs.Charge.{inward, outward, ofSeen, ofUnseen, total, chargeIn, chargeOut, unseenTicks}
+use Rattle.fillings.specs.Fillings.{Config, seen, unseen}
+use Rattle.fillings.specs.Charge.{inward, outward, ofSeen, ofUnseen, total, unseenTicks}
 use Rattle.fillings.proofs.Bools.{is-true}
-use Rattle.flags.specs.declared.Output.{Output}
 use Rattle.flags.specs.declared.RuleFlags.{RuleFlags}
 use Rattle.flags.specs.Outputs.{outputOf, drivers, statusesOf}
 use Rattle.rules.specs.Table.{rows}
 use Rattle.report.specs.declared.Totals.{Totals}
 use Rattle.states.specs.Tracking.{recordAt, ShortTimes}
-use Rattle.states.specs.Steps.{afterSeen, afterUnseen}
 use Rattle.states.proofs.Tracking.{tracks}
 use Rattle.ticks.specs.Traces.{Trace, traceOf, shown, shownIn, Accepted}
 use Rattle.ticks.specs.Places.{NotYet, Place, done, hole, sample}
@@ -40,27 +39,17 @@ use Rattle.live.specs.State.{good, begun, withSample, withHole}
 use Rattle.live.specs.Calls.{beginAnswer, beginState, sampleAnswer, sampleState, holeAnswer, holeState}
 use Rattle.live.specs.Promises.{Event, byTick, feed, feedAnswer, feedState, eventsOf, endOf, ReadsTrace, FedTrace}
 use Rattle.live.specs.Promises as events
-use Rattle.live.proofs.Stepping.{as-rules, tickAnswer, tick-next, hole-taken}
+use Rattle.live.proofs.Stepping.{as-rules, tick-next, hole-taken}
 use Rattle.live.proofs.StaysGood.{stays-good}
 
 -- The lists of the samples of a trace of n cells are n long.
 abbrev Long : ℕ → List Stamped → Type 0
 Long n xs = Every (λ x. (length (x .sample .volts) ≡ n) × (length (x .sample .temps) ≡ n)) xs
 
-volts-long : (s : List ℕ) (k at : ℕ) → length (u16sFrom s k at) ≡ k
-unfolding u16sFrom
-volts-long s zero at = refl
-volts-long s (suc k) at = ap suc (volts-long s k (at + 2))
-
-temps-long : (s : List ℕ) (k at : ℕ) → length (i16sFrom s k at) ≡ k
-unfolding i16sFrom
-temps-long s zero at = refl
-temps-long s (suc k) at = ap suc (temps-long s k (at + 2))
-
 long : (n : ℕ) (s : List ℕ) (k at : ℕ) → Long n (samplesFrom n s k at)
-unfolding samplesFrom
-long n s zero at = tt
-long n s (suc k) at = ((volts-long s n (at + 8), temps-long s n (at + 8 + 2 * n)), long n s k (at + sampleWidth n))
+long n s k at =
+    every-spaced (λ x. (length (x .sample .volts) ≡ n) × (length (x .sample .temps) ≡ n)) (stampedAt n s) (sampleWidth n)
+    (λ x. (length-spaced (u16At s) 2 n (x + 4 + 4), length-spaced (i16At s) 2 n (x + 4 + 4 + 2 * n))) k at
 
 -- The next sample is not before the next tick.
 not-before : {m : ℕ} (hs : List Hole) (x : Stamped) (xs : List Stamped) (e : ℕ) → Place m hs (x ∷ xs) e → e ≤ x .tick

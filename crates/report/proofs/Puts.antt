@@ -1,14 +1,17 @@
 -- Bytes put into a buffer one after the other.
-use Prim.Native.Nat.{ℕ, zero, suc, _+_, _-_, _/_, _%_, _≤_, _<_}
+use Prim.Native.Nat.{ℕ, _+_, _≤_, _<_}
 use mathlib.Core.Path.{_≡_, refl, ap, sym, _∙_}
 use mathlib.Core.List.{List, [], _∷_, _++_, append-assoc, append-nil}
 use native.Mathlib.Omega.{arith}
 use native.Mathlib.Numerals.{add-one}
-use lib.ListN.{length, take, set, length-set}
-use lib.Seq.{take-suc-set}
+use lib.ListN.{length, take, set, length-set, length-append}
+use lib.Seq.{take-suc-set, length-take-le, take-at, sets, sets-eq, length-sets}
 use Rattle.flags.specs.declared.Flag.{Flag}
 use Rattle.flags.specs.Flags.{numberOf}
-use Rattle.report.specs.Bytes.{bytesOf, Put}
+use Rattle.bytes_le.specs.Writing.{bytesOf, putAt}
+use Rattle.bytes_le.proofs.ByteLists.{length-bytes}
+use Rattle.bytes_le.proofs.Puts.{put-fits}
+use Rattle.report.specs.Bytes.{Put}
 
 -- Nothing put.
 pub put-none : (s : List ℕ) (a : ℕ) → Put s s a a []
@@ -17,6 +20,19 @@ put-none s a = record { holds = sym (append-nil (take a s)); long = refl }
 -- One byte.
 pub put-one : (s : List ℕ) (a x : ℕ) → a < length s → Put s (set s a x) a (a + 1) (x ∷ [])
 put-one s a x h = record { holds = ap (λ (k : ℕ). take k (set s a x)) (add-one a) ∙ take-suc-set s a x h; long = length-set s a x }
+
+-- The bytes of a number.
+pub put-bytes : (s t : List ℕ) (a k v : ℕ) → a + k ≤ length s → t ≡ putAt s a (bytesOf k v) → Put s t a (a + k) (bytesOf k v)
+put-bytes s t a k v h e =
+    let bs : List ℕ = bytesOf k v in
+    let l = length-bytes k v in
+    let inside : a + length bs ≤ length s = omega arith in
+    let is : t ≡ sets s a bs = e ∙ put-fits s a bs inside in
+    let i : length (take a s ++ bs) ≡ a + k = omega (arith, length-append (take a s) bs, length-take-le a s (omega arith)) in
+    record {
+      holds = ap (take (a + k)) (is ∙ sets-eq bs s a inside) ∙ take-at (take a s ++ bs) _ (a + k) i;
+      long = ap length is ∙ length-sets s a bs;
+    }
 
 -- One run after the other.
 pub put-then : {s t u : List ℕ} {a b c : ℕ} {bs cs : List ℕ} → Put s t a b bs → Put t u b c cs → Put s u a c (bs ++ cs)
@@ -36,58 +52,3 @@ put-as {s} {t} {a} {b} {bs} {cs} p e = record { holds = p .holds ∙ ap (λ (x :
 -- The number of a flag.
 pub put-number : {s t : List ℕ} {a b : ℕ} {f g : Flag} → Put s t a b (numberOf f ∷ []) → f ≡ g → Put s t a b (numberOf g ∷ [])
 put-number p e = put-as p (ap (λ (h : Flag). numberOf h ∷ []) e)
-
--- The loop over the bytes of a number: what is put, and the bytes that are left of it.
-pub record Putting (s₀ : List ℕ) (at count v : ℕ) (s : List ℕ) (i left rest : ℕ) : Type 0 where
-  pub place : i + left ≡ at + count
-  pub within : at + count ≤ length s₀
-  pub long : length s ≡ length s₀
-  pub holds : take i s ++ bytesOf left rest ≡ take at s₀ ++ bytesOf count v
-
-bytes-next : (left rest : ℕ) → 0 < left → bytesOf left rest ≡ rest % 256 ∷ bytesOf (left - 1) (rest / 256)
-unfolding bytesOf
-bytes-next zero rest h = absurd (omega arith)
-bytes-next (suc k) rest h =
-    let e : k ≡ suc k - 1 = omega arith in
-    ap (λ (n : ℕ). rest % 256 ∷ bytesOf n (rest / 256)) e
-
-bytes-none : (left rest : ℕ) → left ≡ 0 → bytesOf left rest ≡ []
-unfolding bytesOf
-bytes-none zero rest e = refl
-bytes-none (suc k) rest e = absurd (omega arith)
-
-module _ (s₀ : List ℕ) (at count v : ℕ) where
-  pub putting-start : at + count ≤ length s₀ → Putting s₀ at count v s₀ at count v
-  putting-start h = record { place = refl; within = h; long = refl; holds = refl }
-
-  pub putting-next : (s : List ℕ) (i left rest : ℕ) → Putting s₀ at count v s i left rest → 0 < left
-      → Putting s₀ at count v (set s i (rest % 256)) (i + 1) (left - 1) (rest / 256)
-  putting-next s i left rest p h =
-      let e : i + left ≡ at + count = p .place in
-      let w : at + count ≤ length s₀ = p .within in
-      let l : length s ≡ length s₀ = p .long in
-      let q : Put s (set s i (rest % 256)) i (i + 1) (rest % 256 ∷ []) = put-one s i (rest % 256) (omega arith) in
-      record {
-        place = omega arith;
-        within = w;
-        long = length-set s i (rest % 256) ∙ l;
-        holds =
-            ap (λ (x : List ℕ). x ++ bytesOf (left - 1) (rest / 256)) (q .holds)
-            ∙ append-assoc (take i s) (rest % 256 ∷ []) (bytesOf (left - 1) (rest / 256))
-            ∙ ap (λ (x : List ℕ). take i s ++ x) (sym (bytes-next left rest h))
-            ∙ p .holds;
-      }
-
-  pub putting-end : (s : List ℕ) (i left rest : ℕ) → Putting s₀ at count v s i left rest → left ≤ 0 → Put s₀ s at (at + count) (bytesOf count v)
-  putting-end s i left rest p h =
-      let e : i + left ≡ at + count = p .place in
-      let z : left ≡ 0 = omega arith in
-      let g : at + count ≡ i = omega arith in
-      record {
-        holds =
-            ap (λ (k : ℕ). take k s) g
-            ∙ sym (append-nil (take i s))
-            ∙ ap (λ (x : List ℕ). take i s ++ x) (sym (bytes-none left rest z))
-            ∙ p .holds;
-        long = p .long;
-      }

@@ -1,17 +1,17 @@
 -- Paper 01, 'Three-way outputs': the report of 187 bytes.
-use Prim.Native.Nat.{ℕ, zero, suc}
+use Prim.Native.Nat.{ℕ}
 use mathlib.Core.Bool.{cond}
 use mathlib.Core.List.{List, [], _∷_, _++_}
 use lib.Dec.{eqb}
 use lib.ListN.{length}
 use Rattle.refusals.specs.Refusals.{Answer, answer, refused, refusal}
+use Rattle.bytes_le.specs.Writing.{bytesOf}
 use Rattle.rules.specs.Table.{rows}
 use Rattle.flags.specs.declared.RuleFlags.{RuleFlags}
 use Rattle.flags.specs.declared.Output.{Output}
 use Rattle.flags.specs.declared.Output.the-variants.{ChargeOpen, DischargeOpen, Fuse}
 use Rattle.flags.specs.Flags.{numberOf}
 use Rattle.flags.specs.Outputs.{outputOf, drivers, statusesOf}
-use Rattle.report.specs.Bytes.{bytesOf}
 use Rattle.report.specs.declared.FirstTicks.{FirstTicks}
 use Rattle.report.specs.declared.Totals.{Totals}
 use Rattle.report.specs.declared.Reported.{Reported}

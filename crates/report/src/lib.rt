@@ -2,7 +2,6 @@
 ghost use mathlib.Core.Path.{_≡_};
 ghost use Rattle.report.specs.Layout.{answerOfReport, reportAnswer, reported};
 
-mod bytes;
 mod parts;
 
 use flags::Flags;

@@ -1,16 +1,26 @@
 // The parts of the report: rules, outputs, totals.
-ghost use Prim.Native.Nat.{_+_, _≤_};
+ghost use mathlib.Core.List.{[], _∷_};
+ghost use Prim.Native.Nat.{_+_, _<_, _≤_};
 ghost use lib.ListN.{length};
+ghost use Rattle.flags.specs.Flags.{numberOf};
 ghost use Rattle.report.specs.Bytes.{Put};
 ghost use Rattle.report.specs.Layout.{ruleBytes, rulesBytes, outputBytes, totalBytes};
 use crate::AllFirstTicks;
 use crate::FirstTicks;
 use crate::Totals;
-use crate::bytes::put;
-use crate::bytes::put_flag;
+use bytes_le::put;
+use flags::Flag;
 use flags::Flags;
 use flags::Output;
 use flags::RuleFlags;
+
+// Puts the number of a flag.
+fn put_flag(buffer: &mut [u8], at: usize, f: Flag)
+    requires { ⌜ at < length (now buffer) ⌝ }
+    ensures { λ _. ⌜ Put (now (buffer .entry)) (now (buffer .exit)) at (at + 1) (numberOf f ∷ []) ⌝ }
+{
+    buffer[at] = flags::number(f);
+}
 
 fn put_rule(buffer: &mut [u8], at: usize, f: RuleFlags, t: FirstTicks)
     requires { ⌜ at + 10 ≤ length (now buffer) ⌝ }

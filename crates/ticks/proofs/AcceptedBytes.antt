@@ -1,27 +1,25 @@
 -- What the acceptance of bytes says of their trace.
-use Prim.Native.Nat.{ℕ, zero, suc, _+_, _≤_, _<_}
+use Prim.Native.Nat.{ℕ, _+_, _≤_}
 use mathlib.Core.Path.{_≡_, refl, sym, subst}
 use mathlib.Core.Bool.{Bool, true, false, _&&_, _||_}
-use mathlib.Core.List.{List, [], _∷_}
+use mathlib.Core.List.{List}
 use native.Mathlib.Omega.{arith}
 use lib.ListN.{length, getD, List·getD-eq-default}
 use lib.Dec.{T, ltb, leb, eqb}
 use borrow.Author.Tests.{ltb-true, ltb-false, leb-true, eqb-true}
 use Rattle.refusals.specs.Refusals.{answer, andThen}
 use Rattle.bytes_le.specs.Numbers.{u16At}
-use Rattle.rules.specs.declared.Row.{Row}
-use Rattle.rules.specs.declared.Setting.{Setting}
 use Rattle.rules.specs.Table.{rows, rowAt}
-use Rattle.limits.specs.Limits.{off, limits, limitsAnswer, settingsOf}
+use Rattle.limits.specs.Limits.{off, settingsOf}
 use Rattle.limits.specs.Limits as L
 use Rattle.limits.proofs.RuleSets.{time-small, rule-within}
-use Rattle.trace.specs.Records.{Hole, Reply, Stamped, sampleWidth}
-use Rattle.trace.specs.Sections.{headAnswer, rulesAnswer, sectionAnswer, walkAnswer, rulesPart}
+use Rattle.trace.specs.Records.{Hole, Reply, Stamped}
+use Rattle.trace.specs.Sections.{headAnswer, walkAnswer, rulesPart}
 use Rattle.trace.specs.Coverage.{holesAnswer, coverAnswer, repliesAnswer}
 use Rattle.trace.specs.Acceptance.{Parsed, recordsAnswer, acceptAnswer}
 use Rattle.trace.specs.declared.Layout.{Layout}
 use Rattle.refusals.proofs.Answers.{unless, where-true, answered}
-use Rattle.trace.proofs.Layouts.{laid}
+use Rattle.trace.proofs.Layouts.{parts-are}
 use Rattle.fillings.specs.Fillings.{Config, SoundConfig}
 use Rattle.fillings.proofs.Bools.{is-true}
 use Rattle.ticks.specs.Traces.{traceOf, Accepted}
@@ -53,16 +51,7 @@ head-idle s h =
     ltb-false 32766 (u16At s 2) (d .0)
 
 idle-small : (s : List ℕ) (l : Layout) → walkAnswer s ≡ answer l → l .idle ≤ 32766
-unfolding walkAnswer
-idle-small s l h =
-    answered (headAnswer s) _ _ h (λ u a h₁.
-    answered (rulesAnswer s) _ _ h₁ (λ v b h₂.
-    answered (sectionAnswer s 166 8) _ _ h₂ (λ x c h₃.
-    answered (sectionAnswer s (x .end) 10) _ _ h₃ (λ y d h₄.
-    answered (sectionAnswer s (y .end) (sampleWidth (getD s 1 0))) _ _ h₄ (λ z e h₅.
-    let q = where-true (eqb (z .end) (length s)) _ _ _ h₅ in
-    let j : laid s x y z ≡ l = cc in
-    rw (← j) (head-idle s a))))))
+idle-small s l h = let p = parts-are s l h in rw (p .idle) (head-idle s (p .begun .head))
 
 -- The rules of an accepted rule set.
 rules-sound : (n idle : ℕ) (bytes : List ℕ) → L.ruleSetAnswer n bytes ≡ answer tt → idle ≤ 32766 → SoundConfig (record { cells = n; idle = idle; settings = settingsOf bytes })

@@ -4,3 +4,4 @@ pub mod Places
 pub mod AcceptedBytes
 pub mod CoveredOnce
 pub mod Cuts
+pub mod WrittenTraces

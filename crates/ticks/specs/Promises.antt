@@ -1,13 +1,18 @@
 -- What is promised of the ticks of an accepted trace.
-use Prim.Native.Nat.{ℕ, suc, _+_, _-_, _≤_, _<_}
+use Prim.Native.Nat.{ℕ, suc, _+_, _-_, _/_, _≤_, _<_}
 use mathlib.Core.Path.{_≡_}
-use mathlib.Core.Bool.{Bool, false, not, _||_}
+use mathlib.Core.Bool.{false, not, _||_}
 use mathlib.Core.List.{List, [], _∷_}
 use lib.IntN.{ℤ}
 use lib.Dec.{T}
+use lib.ListN.{length}
 use Rattle.refusals.specs.Refusals.{answer}
-use Rattle.trace.specs.Records.{Hole, Stamped}
+use Rattle.bytes_le.specs.Numbers.{u16At}
+use Rattle.limits.specs.Limits.{settingsOf}
+use Rattle.trace.specs.Records.{Hole, Stamped, sampleWidth, holesIn, repliesIn, samplesIn}
+use Rattle.trace.specs.Sections.{rulesPart}
 use Rattle.trace.specs.Acceptance.{Parsed, acceptAnswer}
+use Rattle.trace.specs.Writing.{traceBytes, Start, WholeRecords}
 use Rattle.fillings.specs.Charge.{inward, outward, chargeIn, chargeOut, unseenTicks}
 use Rattle.ticks.specs.Traces.{Trace, traceOf, shown, hasSample, inHole, Accepted}
 use Rattle.ticks.specs.Cut.{cutAt}
@@ -45,3 +50,24 @@ pub record CutHolds (tr : Trace) : Type 0 where
   pub accepted : (t : ℕ) → t < tr .ticks → Accepted (cutAt tr t)
   pub same : (t u : ℕ) → u ≤ t → shown (cutAt tr t) u ≡ shown tr u
   pub whole : (t : ℕ) → suc t ≡ tr .ticks → cutAt tr t ≡ tr
+
+-- The trace of n cells of first 166 bytes (head and rules), the bytes of its holes, replies and samples, and the ticks that it covers.
+abbrev pub writtenTrace : ℕ → List ℕ → List ℕ → List ℕ → List ℕ → ℕ → Trace
+writtenTrace n start holes replies samples ticks =
+    record {
+      config = record { cells = n; idle = u16At start 2; settings = settingsOf (rulesPart start) };
+      holes = holesIn holes;
+      replies = repliesIn replies;
+      samples = samplesIn n samples;
+      ticks = ticks;
+    }
+
+-- Sections written one after the other after first 166 bytes that pass their checks, if their records are those of an accepted trace, are accepted and have just these records.
+abbrev pub WrittenTrace : Type 0
+WrittenTrace =
+    (n : ℕ) (start holes replies samples : List ℕ) (ticks : ℕ)
+    → Start n start → WholeRecords 8 holes → WholeRecords 10 replies → WholeRecords (sampleWidth n) samples
+    → Accepted (writtenTrace n start holes replies samples ticks)
+    → (w : Parsed)
+    × (acceptAnswer (traceBytes start n holes replies samples) ≡ answer w)
+    × (traceOf (traceBytes start n holes replies samples) w ≡ writtenTrace n start holes replies samples ticks)

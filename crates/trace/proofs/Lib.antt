@@ -1,8 +1,12 @@
 pub mod Layouts
 pub mod Walks
 pub mod Nexts
-pub mod HoleTurns
-pub mod ReplyTurns
+pub mod RecordTurns
 pub mod CoverTurns
 pub mod TickBounds
 pub mod Outcomes
+pub mod EachBytes
+pub mod SampleBytes
+pub mod RecordBytes
+pub mod WrittenSections
+pub mod WholeParts

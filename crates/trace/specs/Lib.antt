@@ -4,3 +4,4 @@ pub mod Coverage
 pub mod Acceptance
 pub mod Checks
 pub mod Next
+pub mod Writing

@@ -8,10 +8,10 @@ use native.Mathlib.Numerals.{add-one}
 use lib.Dec.{leb, eqb}
 use lib.ListN.{length}
 use borrow.Author.Tests.{leb-true, leb-false, le-leb, lt-leb, eq-eqb, ne-eqb}
-use Rattle.bytes_le.specs.Numbers.{u32At}
-use Rattle.trace.specs.Records.{Hole, Stamped, holesFrom, samplesFrom, sampleWidth, stampedAt}
-use Rattle.trace.proofs.HoleTurns.{hole-next}
-use Rattle.trace.proofs.CoverTurns.{peel, sample-next}
+use Rattle.bytes_le.specs.Numbers.{u32At, spaced}
+use Rattle.trace.specs.Records.{Hole, Stamped, holeAt, holesFrom, samplesFrom, sampleWidth, stampedAt}
+use Rattle.bytes_le.proofs.Spaced.{spaced-next}
+use Rattle.trace.proofs.CoverTurns.{peel}
 use Rattle.fillings.specs.Fillings.{seen, unseen}
 use Rattle.ticks.specs.Traces.{shownIn}
 use Rattle.ticks.specs.Places.{Place, NotYet}
@@ -111,13 +111,13 @@ module _ {n : ℕ} {holes samples : List ℕ} {m : ℕ} {c : Cursor} (g : Stands
   in-next : 0 < g .holesLeft → u32At holes (c .hole) ≤ c .tick → Place m (h ∷ rest) xs (c .tick)
       × (c .tick ≤ last) × (last < 0xFFFFFFFF) × Place m rest xs (suc last) × ((t : ℕ) → t ≤ last → shownIn xs t ≡ unseen)
   in-next some f =
-      let place : Place m (h ∷ rest) xs (c .tick) = subst (λ (x : List Hole). Place m x xs (c .tick)) (hole-next holes (g .holesLeft) (c .hole) some) (g .place) in
+      let place : Place m (h ∷ rest) xs (c .tick) = subst (λ (x : List Hole). Place m x xs (c .tick)) (spaced-next (holeAt holes) 8 (g .holesLeft) (c .hole) some) (g .place) in
       let (a, b, r, u) = in-hole h rest xs (c .tick) place f in
       (place, a, b, r, u)
 
   -- outside the holes
   not-yet : holeHere holes c ≡ false → NotYet hs (c .tick)
-  unfolding holesFrom
+  unfolding spaced
   not-yet e = by-left (g .holesLeft) refl
     where
       here : 0 < g .holesLeft → (b : Bool) → leb (u32At holes (c .hole)) (c .tick) ≡ b → c .tick < u32At holes (c .hole)
@@ -139,7 +139,7 @@ module _ {n : ℕ} {holes samples : List ℕ} {m : ℕ} {c : Cursor} (g : Stands
       let (place, a, b, r, u) = in-next some f in
       let i = leb-true to last q in
       let hid : (t : ℕ) → c .tick ≤ t → t < to → shows n samples t ≡ unseen = λ t j o. g .later t j ∙ u t (omega arith) in
-      let whole : holesFrom holes (g .holesLeft) (c .hole) ≡ h ∷ rest = hole-next holes (g .holesLeft) (c .hole) some in
+      let whole : holesFrom holes (g .holesLeft) (c .hole) ≡ h ∷ rest = spaced-next (holeAt holes) 8 (g .holesLeft) (c .hole) some in
       rw q
       (record {
         stands = record {
@@ -190,7 +190,7 @@ module _ {n : ℕ} {holes samples : List ℕ} {m : ℕ} {c : Cursor} (g : Stands
   ys = samplesFrom n samples (g .samplesLeft - 1) (c .sample + sampleWidth n)
 
   some-left : NotYet hs (c .tick) → c .tick < m → (k : ℕ) → g .samplesLeft ≡ k → 0 < k
-  unfolding samplesFrom
+  unfolding spaced
   some-left i l zero e = absurd (no-sample hs (c .tick) (subst (λ (k : ℕ). Place m hs (samplesFrom n samples k (c .sample)) (c .tick)) e (g .place)) i l)
   some-left i l (suc k) e = omega arith
 
@@ -199,7 +199,7 @@ module _ {n : ℕ} {holes samples : List ℕ} {m : ℕ} {c : Cursor} (g : Stands
   sample-past to l k q =
       let i = not-yet q in
       let some = some-left i (omega arith) (g .samplesLeft) refl in
-      let e : xs ≡ x ∷ ys = sample-next n samples (g .samplesLeft) (c .sample) some in
+      let e : xs ≡ x ∷ ys = spaced-next (stampedAt n samples) (sampleWidth n) (g .samplesLeft) (c .sample) some in
       let (a, b, rest) = at-sample hs x ys (c .tick) (subst (λ (zs : List Stamped). Place m hs zs (c .tick)) e (g .place)) i in
       let w = peel (g .samplesLeft) (sampleWidth n) some in
       let here : (t : ℕ) → c .tick ≤ t → shows n samples t ≡ shownIn (x ∷ ys) t = λ t j. g .later t j ∙ ap (λ (zs : List Stamped). shownIn zs t) e in

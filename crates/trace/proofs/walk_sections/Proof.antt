@@ -5,8 +5,8 @@ use Rattle.refusals.specs.Refusals.{answer}
 use Rattle.trace.specs.Sections.{headAnswer, sectionAnswer}
 use Rattle.trace.specs.Checks.{answerOfChecked, answerOfSection}
 use Rattle.trace.specs.declared.sections.Sectioned.the-variants.{At}
-use Rattle.trace.proofs.Layouts.{rules-long, section-is}
-use Rattle.trace.proofs.Walks.{Begun, no-head, no-rules, no-holes, no-replies, no-samples, left-over, whole}
+use Rattle.trace.proofs.Layouts.{Begun, rules-long, section-is}
+use Rattle.trace.proofs.Walks.{no-head, no-rules, no-holes, no-replies, no-samples, left-over, whole}
 use borrow.Author.Needs.{needs}
 use Rattle.trace.proofs.walk_sections.Statement.{statement}
 use Rattle.trace.proofs.walk_sections.Tie as tie

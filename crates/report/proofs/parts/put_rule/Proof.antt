@@ -2,7 +2,7 @@ use Prim.Native.Nat.{ℕ, _+_}
 use mathlib.Core.Path.{_≡_}
 use native.Mathlib.Omega.{arith}
 use borrow.Author.Needs.{needs}
-use Rattle.report.proofs.Puts.{put-then, put-to}
+use Rattle.report.proofs.Puts.{put-bytes, put-then, put-to}
 use Rattle.report.proofs.parts.put_rule.Statement.{statement}
 use Rattle.report.proofs.parts.put_rule.Tie as tie
 
@@ -47,7 +47,7 @@ returns c =
     let to-held : at + 2 + 4 ≡ at + 6 = omega arith in
     let to-end : at + 6 + 4 ≡ at + 10 = omega arith in
     put-then (first .put-flag .ensures)
-    (put-then (put-to (second .put-flag2 .ensures) to-possible) (put-then (put-to (third .put .ensures) to-held) (put-to (fourth .put2 .ensures) to-end)))
+    (put-then (put-to (second .put-flag2 .ensures) to-possible) (put-then (put-to (put-bytes _ _ _ 4 _ (omega arith) (third .put .ensures)) to-held) (put-to (put-bytes _ _ _ 4 _ (omega arith) (fourth .put2 .ensures)) to-end)))
 
 pub put-rule-spec : {M : Type 1} → statement M
 put-rule-spec =

@@ -1,5 +1,6 @@
+use native.Mathlib.Omega.{arith}
 use borrow.Author.Needs.{needs}
-use Rattle.report.proofs.Puts.{put-then}
+use Rattle.report.proofs.Puts.{put-bytes, put-then}
 use Rattle.report.proofs.parts.put_totals.Statement.{statement}
 use Rattle.report.proofs.parts.put_totals.Tie as tie
 
@@ -30,7 +31,11 @@ returns c =
     let third = fourth .before .before .before .before .before in
     let second = third .before .before .before .before .before in
     let first = second .before .before .before .before in
-    put-then (put-then (put-then (first .put .ensures) (second .put2 .ensures)) (third .put3 .ensures)) (fourth .put4 .ensures)
+    put-then
+    (put-then
+    (put-then (put-bytes _ _ _ 8 _ (omega arith) (first .put .ensures)) (put-bytes _ _ _ 8 _ (omega arith) (second .put2 .ensures)))
+    (put-bytes _ _ _ 4 _ (omega arith) (third .put3 .ensures)))
+    (put-bytes _ _ _ 4 _ (omega arith) (fourth .put4 .ensures))
 
 pub put-totals-spec : {M : Type 1} → statement M
 put-totals-spec =

@@ -3,8 +3,8 @@ use mathlib.Core.Path.{ap}
 use mathlib.Core.List.{[], _∷_}
 use borrow.Author.Needs.{needs}
 use Rattle.report.proofs.Puts.{put-one, put-as}
-use Rattle.report.proofs.bytes.put_flag.Statement.{statement}
-use Rattle.report.proofs.bytes.put_flag.Tie as tie
+use Rattle.report.proofs.parts.put_flag.Statement.{statement}
+use Rattle.report.proofs.parts.put_flag.Tie as tie
 
 number-requires : tie.Need-number-requires
 number-requires c κs = search needs
