@@ -11,7 +11,7 @@ use Rattle.refusals.proofs.Answers.{clash}
 use Rattle.rules.specs.declared.Setting.{Setting}
 use Rattle.rules.specs.declared.Settings.{Settings}
 use Rattle.trace.specs.declared.Layout.{Layout}
-use Rattle.trace.specs.Records.{repliesIn, sampleWidth}
+use Rattle.trace.specs.Records.{repliesIn}
 use Rattle.trace.specs.Sections.{walkAnswer, holesPart, repliesPart, samplesPart}
 use Rattle.trace.specs.Acceptance.{Parsed, acceptAnswer, ticksOf, layoutOf, settingsIn}
 use Rattle.trace.proofs.Layouts.{PartsAre, parts-are, length-part, replies-start, few-replies}
@@ -65,38 +65,37 @@ module _ (s : List ℕ) (l : Layout) (ss : Settings) (t : ℕ) (h : acceptAnswer
       let long = length-part s (l .replies) (l .«replies_end») (replies-start g) (g .replies-end) in
       omega (arith, g .counted, g .replies)
 
-  module _ (width : ℕ) (wide : width ≡ sampleWidth (l .cells)) where
-    abbrev frame : Frame
-    frame = record { cells = l .cells; idle = l .idle; width = width; ticks = t; settings = ss }
+  abbrev frame : Frame
+  frame = record { cells = l .cells; idle = l .idle; width = l .«sample_width»; ticks = t; settings = ss }
 
-    ready : Ready frame
-    ready = let ok = accepted s w h in record { sound = ok .rules; short = short-times (traceOf s w .config) (ok .rules) sixteen; wide = wide }
+  ready : Ready frame
+  ready = let ok = accepted s w h in record { sound = ok .rules; short = short-times (traceOf s w .config) (ok .rules) sixteen; wide = parts .wide }
 
-    pub is-parts : ((i : ℕ) → getD s i 0 < 256) → (verdicts : ℕ) → verdicts ≡ l .«reply_count»
-        → Parts frame (holesPart s l) (repliesPart s l) (samplesPart s l) verdicts
-    is-parts bytes verdicts e =
-        record {
-          ready = ready;
-          stands = stands-start s w h;
-          ticksOfReplies = accepted s w h .replies;
-          count = e ∙ reply-count;
-          few = few-replies parts (omega (arith, bytes (l .«holes_end»), bytes (l .«holes_end» + 1)));
-          unseenFew = totals.summed s w h bytes .small;
-        }
+  pub is-parts : ((i : ℕ) → getD s i 0 < 256) → (verdicts : ℕ) → verdicts ≡ l .«reply_count»
+      → Parts frame (holesPart s l) (repliesPart s l) (samplesPart s l) verdicts
+  is-parts bytes verdicts e =
+      record {
+        ready = ready;
+        stands = stands-start s w h;
+        ticksOfReplies = accepted s w h .replies;
+        count = e ∙ reply-count;
+        few = few-replies parts (omega (arith, bytes (l .«holes_end»), bytes (l .«holes_end» + 1)));
+        unseenFew = totals.summed s w h bytes .small;
+      }
 
-    -- the totals of the parts are those of the trace
-    totals-are : ((i : ℕ) → getD s i 0 < 256) → summed (l .cells) (holesPart s l) (samplesPart s l) t ≡ totalsAt (shown (traceOf s w)) t
-    totals-are bytes = let z = totals.summed s w h bytes in totals-same (z .sumIn) (z .sumOut) (z .sumUnseen)
+  -- the totals of the parts are those of the trace
+  totals-are : ((i : ℕ) → getD s i 0 < 256) → summed (l .cells) (holesPart s l) (samplesPart s l) t ≡ totalsAt (shown (traceOf s w)) t
+  totals-are bytes = let z = totals.summed s w h bytes in totals-same (z .sumIn) (z .sumOut) (z .sumUnseen)
 
-    pub report-is : ((i : ℕ) → getD s i 0 < 256) → (buffer : List ℕ) → length buffer ≡ 187
-        → reported (flagsAt (configIn frame) (shown (traceOf s w)) t) (firstsAt (configIn frame) (shown (traceOf s w)) t) (summed (l .cells) (holesPart s l) (samplesPart s l) t) buffer
-        ≡ traceReport (traceOf s w)
-    unfolding traceReport
-    report-is bytes buffer e =
-        let fs = flagsAt (configIn frame) (shown (traceOf s w)) t in
-        let ts = firstsAt (configIn frame) (shown (traceOf s w)) t in
-        written fs ts (summed (l .cells) (holesPart s l) (samplesPart s l) t) buffer e ∙ ap (reportBytes fs ts) (totals-are bytes)
+  pub report-is : ((i : ℕ) → getD s i 0 < 256) → (buffer : List ℕ) → length buffer ≡ 187
+      → reported (flagsAt (configIn frame) (shown (traceOf s w)) t) (firstsAt (configIn frame) (shown (traceOf s w)) t) (summed (l .cells) (holesPart s l) (samplesPart s l) t) buffer
+      ≡ traceReport (traceOf s w)
+  unfolding traceReport
+  report-is bytes buffer e =
+      let fs = flagsAt (configIn frame) (shown (traceOf s w)) t in
+      let ts = firstsAt (configIn frame) (shown (traceOf s w)) t in
+      written fs ts (summed (l .cells) (holesPart s l) (samplesPart s l) t) buffer e ∙ ap (reportBytes fs ts) (totals-are bytes)
 
-    pub verdicts-are : map (verdictOn (configIn frame) (shown (traceOf s w))) (repliesIn (repliesPart s l)) ≡ traceVerdicts (traceOf s w)
-    unfolding traceVerdicts
-    verdicts-are = refl
+  pub verdicts-are : map (verdictOn (configIn frame) (shown (traceOf s w))) (repliesIn (repliesPart s l)) ≡ traceVerdicts (traceOf s w)
+  unfolding traceVerdicts
+  verdicts-are = refl

@@ -27,10 +27,10 @@ fn check_buffers(s: &[u8], report: usize, verdicts: usize) -> Judged
     match trace::walk_sections(s) {
         Walk::Refused(why) => Judged::Refused(why),
         Walk::Whole(l) => {
-            if verdicts != l.reply_count {
-                return Judged::Refused(Refusal::VerdictLength);
+            if verdicts == l.reply_count {
+                return Judged::Accepted;
             }
-            Judged::Accepted
+            Judged::Refused(Refusal::VerdictLength)
         }
     }
 }

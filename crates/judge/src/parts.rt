@@ -75,7 +75,7 @@ pub(crate) fn judge_accepted(
     let f = Frame {
         cells: l.cells,
         idle: l.idle,
-        width: trace::sample_width(l.cells),
+        width: l.sample_width,
         ticks,
         settings,
     };

@@ -9,6 +9,7 @@ use lib.Dec.{T, ltb, leb, eqb}
 use borrow.Author.Tests.{ltb-true, ltb-false, leb-true, eqb-true}
 use Rattle.refusals.specs.Refusals.{answer, andThen}
 use Rattle.bytes_le.specs.Numbers.{u16At}
+use Rattle.rules.specs.Samples.{cellCount}
 use Rattle.rules.specs.Table.{rows, rowAt}
 use Rattle.limits.specs.Limits.{off, settingsOf}
 use Rattle.limits.specs.Limits as L
@@ -41,12 +42,12 @@ checks s w h =
     let j : record { layout = l; settings = settingsOf (rulesPart s); ticks = t } ≡ w = cc in
     rw (← j) (record { walked = b; rules = d; records = f; settings = refl }))))
 
-head-idle : (s : List ℕ) {u : Unit {0}} → headAnswer s ≡ answer u → u16At s 2 ≤ 32766
+head-idle : (s : List ℕ) {u : Unit {0}} → headAnswer 1 s ≡ answer u → u16At s 2 ≤ 32766
 unfolding headAnswer
 head-idle s h =
     let a = unless (ltb (length s) 4) 1 0 _ h in
-    let b = where-true (eqb (getD s 0 0) 1) 2 0 _ (a .1) in
-    let c = unless (ltb (getD s 1 0) 3 || ltb 12 (getD s 1 0)) 3 0 _ (b .1) in
+    let b = where-true (leb 1 (getD s 0 0) && leb (getD s 0 0) 1) 2 0 _ (a .1) in
+    let c = where-true (cellCount (getD s 1 0)) 3 0 _ (b .1) in
     let d = unless (ltb 32766 (u16At s 2)) 4 0 _ (c .1) in
     ltb-false 32766 (u16At s 2) (d .0)
 

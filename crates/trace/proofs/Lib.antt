@@ -1,3 +1,4 @@
+pub mod Heads
 pub mod Layouts
 pub mod Walks
 pub mod Nexts

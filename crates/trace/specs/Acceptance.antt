@@ -49,7 +49,7 @@ ticksOf (refused number place) = refused number place
 abbrev pub layoutOf : Answer Parsed → Layout
 layoutOf (answer w) = w .layout
 layoutOf (refused number place) =
-    record { cells = 0; idle = 0; holes = 0; «holes_end» = 0; replies = 0; «replies_end» = 0; «reply_count» = 0; samples = 0 }
+    record { cells = 0; idle = 0; holes = 0; «holes_end» = 0; replies = 0; «replies_end» = 0; «reply_count» = 0; samples = 0; «sample_width» = 0 }
 
 -- The settings that are handed on: all off where the trace is refused.
 abbrev pub settingsIn : Answer Parsed → List Setting

@@ -26,7 +26,7 @@ use sections::check_rule_count;
 use sections::read_section;
 pub use sections::sample_width;
 
-// Where the sections of a trace lie. The rules are the bytes 6 to 165.
+// Where the sections of a trace lie, and the bytes of a sample. The rules are the bytes 6 to 165.
 pub struct Layout {
     pub cells: u8,
     pub idle: u16,
@@ -36,6 +36,7 @@ pub struct Layout {
     pub replies_end: usize,
     pub reply_count: usize,
     pub samples: usize,
+    pub sample_width: usize,
 }
 
 pub enum Walk {
@@ -47,7 +48,7 @@ pub enum Walk {
 pub fn walk_sections(s: &[u8]) -> Walk
     ensures { λ r. ⌜ answerOfWalk r ≡ walkAnswer (now (s .entry)) ⌝ }
 {
-    if let Checked::Refused(why) = check_head(s) {
+    if let Checked::Refused(why) = check_head(s, 1) {
         return Walk::Refused(why);
     }
     if let Checked::Refused(why) = check_rule_count(s) {
@@ -60,7 +61,8 @@ pub fn walk_sections(s: &[u8]) -> Walk
         return Walk::Refused(Refusal::PastEnd);
     };
     let cells = s[1];
-    let Sectioned::At(samples) = read_section(s, replies.end, sample_width(cells)) else {
+    let width = sample_width(cells);
+    let Sectioned::At(samples) = read_section(s, replies.end, width) else {
         return Walk::Refused(Refusal::PastEnd);
     };
     if samples.end != s.len() {
@@ -75,6 +77,7 @@ pub fn walk_sections(s: &[u8]) -> Walk
         replies_end: replies.end,
         reply_count: replies.count,
         samples: samples.start,
+        sample_width: width,
     })
 }
 

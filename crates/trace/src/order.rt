@@ -36,6 +36,7 @@ pub(crate) fn refuse(why: Refusal) -> Acceptance
             replies_end: 0,
             reply_count: 0,
             samples: 0,
+            sample_width: 0,
         },
         settings: Settings {
             of: [Setting {

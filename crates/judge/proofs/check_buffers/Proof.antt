@@ -18,13 +18,13 @@ enum-known-l : tie.Need-enum-known-l
 enum-known-l c = search needs
 
 returns-2 : tie.Need-returns-2
-returns-2 c = no-verdicts _ _ (c .before .before .before .before .before .before .if1 .left) (sym (c .before .before .before .before .before .walk-sections .ensures) ∙ ap answerOfWalk (c .before .before .before .l .given .1)) (c .if2 .taken)
+returns-2 c = buffers-fit _ _ (c .before .before .before .before .before .before .if1 .left) (sym (c .before .before .before .before .before .walk-sections .ensures) ∙ ap answerOfWalk (c .before .before .before .l .given .1)) (c .if2 .taken)
 
 returns-3 : tie.Need-returns-3
 returns-3 c = no-sections _ _ (c .before .before .before .before .if1 .left) (sym (c .before .before .before .walk-sections .ensures) ∙ ap answerOfWalk (c .before .why .given .1))
 
 returns-4 : tie.Need-returns-4
-returns-4 c = buffers-fit _ _ (c .before .before .before .before .before .before .if1 .left) (sym (c .before .before .before .before .before .walk-sections .ensures) ∙ ap answerOfWalk (c .before .before .before .l .given .1)) (c .if2 .left)
+returns-4 c = no-verdicts _ _ (c .before .before .before .before .before .before .if1 .left) (sym (c .before .before .before .before .before .walk-sections .ensures) ∙ ap answerOfWalk (c .before .before .before .l .given .1)) (c .if2 .left)
 
 pub check-buffers-spec : {M : Type 1} → statement M
 check-buffers-spec =

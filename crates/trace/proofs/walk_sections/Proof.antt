@@ -12,7 +12,7 @@ use Rattle.trace.proofs.walk_sections.Statement.{statement}
 use Rattle.trace.proofs.walk_sections.Tie as tie
 
 -- What each check answered, at the place after it.
-head : (c : tie.After-enum-told) → headAnswer (now (c .before .before .before .before .args .s)) ≡ answer tt
+head : (c : tie.After-enum-told) → headAnswer 1 (now (c .before .before .before .before .args .s)) ≡ answer tt
 head c = sym (c .before .before .check-head .ensures) ∙ ap answerOfChecked (c .enum-told .given .1)
 
 begun : (c : tie.After-enum-told2) → Begun (now (c .before .before .before .before .before .before .before .args .s))

@@ -6,40 +6,37 @@ use Rattle.judge.proofs.AcceptedParts.{parts, is-parts, report-is, verd
 use Rattle.judge.proofs.parts.judge_accepted.Statement.{statement}
 use Rattle.judge.proofs.parts.judge_accepted.Tie as tie
 
-sample-width-requires : tie.Need-sample-width-requires
-sample-width-requires c κs = search needs
-
 sub-judge-parts : tie.Need-sub-judge-parts
-sub-judge-parts c = holes-start (parts _ _ _ _ (c .before .before .before .before .pre .0))
+sub-judge-parts c = holes-start (parts _ _ _ _ (c .before .before .before .pre .0))
 
 part-judge-parts-start : tie.Need-part-judge-parts-start
-part-judge-parts-start c = holes-start (parts _ _ _ _ (c .before .before .before .before .pre .0))
+part-judge-parts-start c = holes-start (parts _ _ _ _ (c .before .before .before .pre .0))
 
 part-judge-parts-end : tie.Need-part-judge-parts-end
-part-judge-parts-end c = parts _ _ _ _ (c .before .before .before .before .pre .0) .holes-end
+part-judge-parts-end c = parts _ _ _ _ (c .before .before .before .pre .0) .holes-end
 
 sub-judge-parts-2 : tie.Need-sub-judge-parts-2
-sub-judge-parts-2 c = replies-start (parts _ _ _ _ (c .before .before .before .before .before .pre .0))
+sub-judge-parts-2 c = replies-start (parts _ _ _ _ (c .before .before .before .before .pre .0))
 
 part-judge-parts-start-2 : tie.Need-part-judge-parts-start-2
-part-judge-parts-start-2 c = replies-start (parts _ _ _ _ (c .before .before .before .before .before .pre .0))
+part-judge-parts-start-2 c = replies-start (parts _ _ _ _ (c .before .before .before .before .pre .0))
 
 part-judge-parts-end-2 : tie.Need-part-judge-parts-end-2
-part-judge-parts-end-2 c = parts _ _ _ _ (c .before .before .before .before .before .pre .0) .replies-end
+part-judge-parts-end-2 c = parts _ _ _ _ (c .before .before .before .before .pre .0) .replies-end
 
 sub-judge-parts-3 : tie.Need-sub-judge-parts-3
-sub-judge-parts-3 c = parts _ _ _ _ (c .before .before .before .before .before .before .pre .0) .samples
+sub-judge-parts-3 c = parts _ _ _ _ (c .before .before .before .before .before .pre .0) .samples
 
 part-judge-parts-start-3 : tie.Need-part-judge-parts-start-3
-part-judge-parts-start-3 c = parts _ _ _ _ (c .before .before .before .before .before .before .pre .0) .samples
+part-judge-parts-start-3 c = parts _ _ _ _ (c .before .before .before .before .before .pre .0) .samples
 
 part-judge-parts-end-3 : tie.Need-part-judge-parts-end-3
 part-judge-parts-end-3 c = search needs
 
 judge-parts-requires : tie.Need-judge-parts-requires
 judge-parts-requires c κs =
-    let pre = c .before .before .before .before .before .before .before .before .before .pre in
-    is-parts _ _ _ _ (pre .0) _ (c .before .before .before .before .before .sample-width .ensures) (λ i. omega (arith, c .before .before .before .before .before .before .before .before .shared-slice-known .given i)) _ (pre .2)
+    let pre = c .before .before .before .before .before .before .before .before .pre in
+    is-parts _ _ _ _ (pre .0) (λ i. omega (arith, c .before .before .before .before .before .before .before .shared-slice-known .given i)) _ (pre .2)
 
 same-length : tie.Need-same-length
 same-length c = search needs
@@ -49,16 +46,14 @@ same-length-2 c = search needs
 
 returns : tie.Need-returns
 returns c =
-    let pre = c .before .before .before .before .before .before .before .before .before .before .before .before .before .before .pre in
+    let pre = c .before .before .before .before .before .before .before .before .before .before .before .before .before .pre in
     let e = c .before .before .before .before .judge-parts .ensures in
-    let wide = c .before .before .before .before .before .before .before .before .before .before .sample-width .ensures in
-    (e .0 ∙ report-is _ _ _ _ (pre .0) _ wide (λ i. omega (arith, c .before .before .before .before .before .before .before .before .before .before .before .before .before .shared-slice-known .given i)) _ (pre .1), e .1 ∙ verdicts-are _ _ _ _ (pre .0) _ wide)
+    (e .0 ∙ report-is _ _ _ _ (pre .0) (λ i. omega (arith, c .before .before .before .before .before .before .before .before .before .before .before .before .shared-slice-known .given i)) _ (pre .1), e .1 ∙ verdicts-are _ _ _ _ (pre .0))
 
 pub judge-accepted-spec : {M : Type 1} → statement M
 judge-accepted-spec =
     tie.close
     (tie.spec
-    sample-width-requires
     sub-judge-parts
     part-judge-parts-start
     part-judge-parts-end
