@@ -5,12 +5,14 @@ use mathlib.Core.List.{List, [], _∷_}
 use lib.Dec.{leb, eqb}
 use lib.ListN.{length, getD}
 use Rattle.refusals.specs.Refusals.{Answer, answer, refused}
+use Rattle.rules.specs.Samples.{Sample}
 use Rattle.limits.specs.Limits.{settingsOf}
 use Rattle.fillings.specs.PossibleStates.{tabulate}
 use Rattle.report.specs.declared.Totals.{Totals}
 use Rattle.report.specs.Layout.{reportAnswer, reported}
 use Rattle.live.specs.declared.Live.{Live}
-use Rattle.live.specs.Calls.{flagsRead}
+use Rattle.live.specs.State.{withSample, withHole}
+use Rattle.live.specs.Calls.{sampleAnswer, holeAnswer, ofGood, flagsRead}
 
 -- The state in these lists. The totals are charge in, charge out, unseen ticks and ticks.
 abbrev pub stateOf : ℕ → ℕ → List ℕ → List ℕ → List ℕ → Live
@@ -53,3 +55,45 @@ reportedAnswer (refused number place) buffer = refused number place
 -- The report of a state, with no first ticks.
 abbrev pub stateReport : Live → List ℕ → List ℕ
 stateReport s buffer = reported (flagsRead s) (tabulate 16 (λ i. record { possible = 0xFFFFFFFF; held = 0xFFFFFFFF })) (s .totals) buffer
+
+-- What a caller keeps: the cell count, the idle current, and the three lists.
+pub record Kept : Type 0 where
+  pub cells : ℕ
+  pub idle : ℕ
+  pub rules : List ℕ
+  pub words : List ℕ
+  pub totals : List ℕ
+
+abbrev pub kept : ℕ → ℕ → List ℕ → List ℕ → List ℕ → Kept
+kept cells idle rules words totals = record { cells = cells; idle = idle; rules = rules; words = words; totals = totals }
+
+-- The state that it keeps.
+abbrev pub keptState : Kept → Live
+keptState k = stateOf (k .cells) (k .idle) (k .rules) (k .words) (k .totals)
+
+-- A sample: the answer, and the lists afterwards.
+abbrev pub sampleCall : Kept → ℕ → Sample → Answer (Unit {0})
+sampleCall k tick x = ofKept (k .rules) (k .totals) (sampleAnswer (keptState k) tick x)
+
+abbrev pub sampleWords : Kept → ℕ → Sample → List ℕ
+sampleWords k tick x = listAfter (sampleCall k tick x) (withSample (keptState k) x .states .words) (k .words)
+
+abbrev pub sampleTotals : Kept → ℕ → Sample → List ℕ
+sampleTotals k tick x = listAfter (sampleCall k tick x) (totalsList (withSample (keptState k) x .totals)) (k .totals)
+
+-- A hole: the answer, and the lists afterwards.
+abbrev pub holeCall : Kept → ℕ → Answer (Unit {0})
+holeCall k last = ofKept (k .rules) (k .totals) (holeAnswer (keptState k) last)
+
+abbrev pub holeWords : Kept → ℕ → List ℕ
+holeWords k last = listAfter (holeCall k last) (withHole (keptState k) last .states .words) (k .words)
+
+abbrev pub holeTotals : Kept → ℕ → List ℕ
+holeTotals k last = listAfter (holeCall k last) (totalsList (withHole (keptState k) last .totals)) (k .totals)
+
+-- A report: the answer, and the buffer afterwards.
+abbrev pub reportCall : Kept → List ℕ → Answer (Unit {0})
+reportCall k buffer = reportedAnswer (ofKept (k .rules) (k .totals) (ofGood (keptState k) tt)) buffer
+
+abbrev pub reportAfter : Kept → List ℕ → List ℕ
+reportAfter k buffer = listAfter (reportCall k buffer) (stateReport (keptState k) buffer) buffer

@@ -1,11 +1,11 @@
 // The live feed for programs in C and Rust (include/buttmitrel.h), which keep the state in lists of their own and lend them to each call.
 ghost use mathlib.Core.Path.{_≡_};
 ghost use mathlib.Core.List.{[], _∷_};
+ghost use Rattle.rules.specs.Samples.{sampleOf};
 ghost use Rattle.states.specs.Records.{fresh};
-ghost use Rattle.live.specs.State.{withSample, withHole};
-ghost use Rattle.live.specs.Calls.{beginAnswer, sampleAnswer, holeAnswer, ofGood};
+ghost use Rattle.live.specs.Calls.{beginAnswer};
 ghost use Rattle.buttmitrel.specs.Code.{codeOf};
-ghost use Rattle.buttmitrel_live.specs.Live.{stateOf, ofKept, listAfter, totalsList, begunAnswer, reportedAnswer, stateReport};
+ghost use Rattle.buttmitrel_live.specs.Live.{listAfter, begunAnswer, kept, sampleCall, sampleWords, sampleTotals, holeCall, holeWords, holeTotals, reportCall, reportAfter};
 
 mod keeping;
 
@@ -47,9 +47,9 @@ pub extern "C" fn buttmitrel_live_sample(
     volts: &[u16],
     temps: &[i16],
 ) -> u64
-    ensures answer { λ n. ⌜ n ≡ codeOf (ofKept (now (rules .entry)) (now (totals .entry)) (sampleAnswer (stateOf cells idle (now (rules .entry)) (now (words .entry)) (now (totals .entry))) tick (record { current = current; board = board; volts = now (volts .entry); temps = now (temps .entry) }))) ⌝ }
-    ensures words { λ _. ⌜ now (words .exit) ≡ listAfter (ofKept (now (rules .entry)) (now (totals .entry)) (sampleAnswer (stateOf cells idle (now (rules .entry)) (now (words .entry)) (now (totals .entry))) tick (record { current = current; board = board; volts = now (volts .entry); temps = now (temps .entry) }))) (withSample (stateOf cells idle (now (rules .entry)) (now (words .entry)) (now (totals .entry))) (record { current = current; board = board; volts = now (volts .entry); temps = now (temps .entry) }) .states .words) (now (words .entry)) ⌝ }
-    ensures totals { λ _. ⌜ now (totals .exit) ≡ listAfter (ofKept (now (rules .entry)) (now (totals .entry)) (sampleAnswer (stateOf cells idle (now (rules .entry)) (now (words .entry)) (now (totals .entry))) tick (record { current = current; board = board; volts = now (volts .entry); temps = now (temps .entry) }))) (totalsList (withSample (stateOf cells idle (now (rules .entry)) (now (words .entry)) (now (totals .entry))) (record { current = current; board = board; volts = now (volts .entry); temps = now (temps .entry) }) .totals)) (now (totals .entry)) ⌝ }
+    ensures answer { λ n. ⌜ n ≡ codeOf (sampleCall (kept cells idle (now (rules .entry)) (now (words .entry)) (now (totals .entry))) tick (sampleOf current board (now (volts .entry)) (now (temps .entry)))) ⌝ }
+    ensures words { λ _. ⌜ now (words .exit) ≡ sampleWords (kept cells idle (now (rules .entry)) (now (words .entry)) (now (totals .entry))) tick (sampleOf current board (now (volts .entry)) (now (temps .entry))) ⌝ }
+    ensures totals { λ _. ⌜ now (totals .exit) ≡ sampleTotals (kept cells idle (now (rules .entry)) (now (words .entry)) (now (totals .entry))) tick (sampleOf current board (now (volts .entry)) (now (temps .entry))) ⌝ }
 {
     let kept = load(cells, idle, rules, words, totals);
     let answer = kept.answer;
@@ -73,9 +73,9 @@ pub extern "C" fn buttmitrel_live_hole(
     totals: &mut [u64],
     last: u32,
 ) -> u64
-    ensures answer { λ n. ⌜ n ≡ codeOf (ofKept (now (rules .entry)) (now (totals .entry)) (holeAnswer (stateOf cells idle (now (rules .entry)) (now (words .entry)) (now (totals .entry))) last)) ⌝ }
-    ensures words { λ _. ⌜ now (words .exit) ≡ listAfter (ofKept (now (rules .entry)) (now (totals .entry)) (holeAnswer (stateOf cells idle (now (rules .entry)) (now (words .entry)) (now (totals .entry))) last)) (withHole (stateOf cells idle (now (rules .entry)) (now (words .entry)) (now (totals .entry))) last .states .words) (now (words .entry)) ⌝ }
-    ensures totals { λ _. ⌜ now (totals .exit) ≡ listAfter (ofKept (now (rules .entry)) (now (totals .entry)) (holeAnswer (stateOf cells idle (now (rules .entry)) (now (words .entry)) (now (totals .entry))) last)) (totalsList (withHole (stateOf cells idle (now (rules .entry)) (now (words .entry)) (now (totals .entry))) last .totals)) (now (totals .entry)) ⌝ }
+    ensures answer { λ n. ⌜ n ≡ codeOf (holeCall (kept cells idle (now (rules .entry)) (now (words .entry)) (now (totals .entry))) last) ⌝ }
+    ensures words { λ _. ⌜ now (words .exit) ≡ holeWords (kept cells idle (now (rules .entry)) (now (words .entry)) (now (totals .entry))) last ⌝ }
+    ensures totals { λ _. ⌜ now (totals .exit) ≡ holeTotals (kept cells idle (now (rules .entry)) (now (words .entry)) (now (totals .entry))) last ⌝ }
 {
     let kept = load(cells, idle, rules, words, totals);
     let answer = kept.answer;
@@ -99,8 +99,8 @@ pub extern "C" fn buttmitrel_live_report(
     totals: &[u64],
     report: &mut [u8],
 ) -> u64
-    ensures answer { λ n. ⌜ n ≡ codeOf (reportedAnswer (ofKept (now (rules .entry)) (now (totals .entry)) (ofGood (stateOf cells idle (now (rules .entry)) (now (words .entry)) (now (totals .entry))) tt)) (now (report .entry))) ⌝ }
-    ensures report { λ _. ⌜ now (report .exit) ≡ listAfter (reportedAnswer (ofKept (now (rules .entry)) (now (totals .entry)) (ofGood (stateOf cells idle (now (rules .entry)) (now (words .entry)) (now (totals .entry))) tt)) (now (report .entry))) (stateReport (stateOf cells idle (now (rules .entry)) (now (words .entry)) (now (totals .entry))) (now (report .entry))) (now (report .entry)) ⌝ }
+    ensures answer { λ n. ⌜ n ≡ codeOf (reportCall (kept cells idle (now (rules .entry)) (now (words .entry)) (now (totals .entry))) (now (report .entry))) ⌝ }
+    ensures report { λ _. ⌜ now (report .exit) ≡ reportAfter (kept cells idle (now (rules .entry)) (now (words .entry)) (now (totals .entry))) (now (report .entry)) ⌝ }
 {
     let kept = load(cells, idle, rules, words, totals);
     let answer = kept.answer;

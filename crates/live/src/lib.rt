@@ -1,6 +1,7 @@
 // The live feed (paper 01): a card in a running analyzer feeds samples and holes one by one. Each call takes any state whatever;
 // one that is no good state is refusal 16, and a refused call answers the state that it was given.
 ghost use mathlib.Core.Path.{_≡_};
+ghost use Rattle.rules.specs.Samples.{sampleOf};
 ghost use Rattle.live.specs.Calls.{answerOfFed, beginAnswer, beginState, sampleAnswer, sampleState, holeAnswer, holeState, ofGood, flagsRead, outputRead, answerOfOutput, totalsRead, answerOfTotals, netRead};
 ghost use Rattle.totals.specs.Totals.{answerOfNet};
 
@@ -81,8 +82,8 @@ pub fn sample(
     volts: &[u16],
     temps: &[i16],
 ) -> Step
-    ensures answer { λ r. ⌜ answerOfFed (r .answer) ≡ sampleAnswer state tick (record { current = current; board = board; volts = now (volts .entry); temps = now (temps .entry) }) ⌝ }
-    ensures state { λ r. ⌜ r .state ≡ sampleState state tick (record { current = current; board = board; volts = now (volts .entry); temps = now (temps .entry) }) ⌝ }
+    ensures answer { λ r. ⌜ answerOfFed (r .answer) ≡ sampleAnswer state tick (sampleOf current board (now (volts .entry)) (now (temps .entry))) ⌝ }
+    ensures state { λ r. ⌜ r .state ≡ sampleState state tick (sampleOf current board (now (volts .entry)) (now (temps .entry))) ⌝ }
 {
     if is_good(state) {
         return take_sample(state, tick, current, board, volts, temps);

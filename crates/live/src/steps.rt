@@ -4,7 +4,7 @@ ghost use mathlib.Core.Bool.{true, cond, _&&_};
 ghost use Prim.Native.Nat.{_*_, _≤_, _<_};
 ghost use lib.Dec.{ltb, leb, eqb};
 ghost use Rattle.refusals.specs.Refusals.{answer, refused};
-ghost use Rattle.rules.specs.Samples.{Sample, readingsOf};
+ghost use Rattle.rules.specs.Samples.{sampleOf, Sample, readingsOf};
 ghost use Rattle.live.specs.State.{good, withSample, withHole};
 ghost use Rattle.live.specs.Calls.{sampleAnswer, holeAnswer};
 ghost use Rattle.live.specs.Steps.{Stepped, countSample, countHole};
@@ -118,7 +118,7 @@ pub(crate) fn take_sample(
     temps: &[i16],
 ) -> Step
     requires { ⌜ good state ≡ true ⌝ }
-    ensures { λ r. ⌜ Stepped r (sampleAnswer state tick (record { current = current; board = board; volts = now (volts .entry); temps = now (temps .entry) })) (withSample state (record { current = current; board = board; volts = now (volts .entry); temps = now (temps .entry) })) state ⌝ }
+    ensures { λ r. ⌜ Stepped r (sampleAnswer state tick (sampleOf current board (now (volts .entry)) (now (temps .entry)))) (withSample state (sampleOf current board (now (volts .entry)) (now (temps .entry)))) state ⌝ }
 {
     match samples::read_sample(state.cells, current, board, volts, temps) {
         Read::Refused(why) => refuse(why, state),
