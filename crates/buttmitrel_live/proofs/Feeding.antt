@@ -7,13 +7,13 @@ use native.Mathlib.Omega.{arith}
 use lib.Dec.{eqb}
 use lib.ListN.{length}
 use borrow.Author.Tests.{eq-eqb, ne-eqb}
+use Rattle.lists.specs.Lists.{tabulate}
 use Rattle.refusals.specs.Refusals.{Answer, answer, refused, orKept}
 use Rattle.rules.specs.declared.Setting.{Setting}
 use Rattle.flags.specs.declared.RuleFlags.{RuleFlags}
 use Rattle.report.specs.declared.FirstTicks.{FirstTicks}
 use Rattle.report.specs.declared.Totals.{Totals}
 use Rattle.report.specs.Layout.{reportBytes, reportAnswer, reported}
-use Rattle.fillings.specs.PossibleStates.{tabulate}
 use Rattle.states.specs.Records.{fresh}
 use Rattle.live.specs.declared.Live.{Live}
 use Rattle.live.specs.State.{good, begun}

@@ -9,15 +9,16 @@ use lib.ListN.{length, getD, set, length-set}
 use lib.Seq.{getD-set-same, getD-set-other, ext-getD}
 use borrow.Author.Tests.{eq-eqb, ne-eqb, eqb-true, le-leb, lt-leb, leb-true}
 use borrow.Author.Count.{below-more}
+use Rattle.lists.specs.Lists.{everyBelow}
+use Rattle.lists.proofs.Bools.{both-true}
 use Rattle.refusals.specs.declared.Refusal.{Refusal}
 use Rattle.refusals.specs.Refusals.{answer, refused, passes}
 use Rattle.rules.specs.Samples.{cellCount}
 use Rattle.rules.specs.Table.{rows}
 use Rattle.limits.specs.Limits.{limitsAnswer, settingsOf}
-use Rattle.ticks.proofs.Tests.{and-true}
 use Rattle.report.specs.declared.Totals.{Totals}
 use Rattle.states.specs.declared.States.{States}
-use Rattle.states.specs.Validity.{validRecord, everyBelow, validSet}
+use Rattle.states.specs.Validity.{validRecord, validSet}
 use Rattle.states.specs.Steps.{settingOf}
 use Rattle.live.specs.declared.Live.{Live}
 use Rattle.live.specs.declared.Step.{Step}
@@ -72,8 +73,8 @@ module _ (t : List ℕ) where
 
   totals-tests : areTotals t ≡ true → (eqb (length t) 4 ≡ true) × (leb (getD t 2 0) 0xFFFFFFFF ≡ true) × (leb (getD t 3 0) 0xFFFFFFFF ≡ true)
   totals-tests h =
-      let (a, c) = and-true (eqb (length t) 4 && leb (getD t 2 0) 0xFFFFFFFF) (leb (getD t 3 0) 0xFFFFFFFF) h in
-      let (l, b) = and-true (eqb (length t) 4) (leb (getD t 2 0) 0xFFFFFFFF) a in (l, b, c)
+      let (a, c) = both-true (eqb (length t) 4 && leb (getD t 2 0) 0xFFFFFFFF) (leb (getD t 3 0) 0xFFFFFFFF) h in
+      let (l, b) = both-true (eqb (length t) 4) (leb (getD t 2 0) 0xFFFFFFFF) a in (l, b, c)
 
   pub four-long : areTotals t ≡ true → length t ≡ 4
   four-long h = eqb-true (length t) 4 (totals-tests h .0)
@@ -89,9 +90,9 @@ module _ (t : List ℕ) where
 
   pub kept-tests : (rules : List ℕ) → isKept rules t ≡ true → (eqb (length rules) 160 ≡ true) × (areTotals t ≡ true)
   kept-tests rules h =
-      let (x, c) = and-true (eqb (length rules) 160 && eqb (length t) 4 && leb (getD t 2 0) 0xFFFFFFFF) (leb (getD t 3 0) 0xFFFFFFFF) h in
-      let (y, b) = and-true (eqb (length rules) 160 && eqb (length t) 4) (leb (getD t 2 0) 0xFFFFFFFF) x in
-      let (r, l) = and-true (eqb (length rules) 160) (eqb (length t) 4) y in (r, rw (l, b, c))
+      let (x, c) = both-true (eqb (length rules) 160 && eqb (length t) 4 && leb (getD t 2 0) 0xFFFFFFFF) (leb (getD t 3 0) 0xFFFFFFFF) h in
+      let (y, b) = both-true (eqb (length rules) 160 && eqb (length t) 4) (leb (getD t 2 0) 0xFFFFFFFF) x in
+      let (r, l) = both-true (eqb (length rules) 160) (eqb (length t) 4) y in (r, rw (l, b, c))
 
 -- What is not true is false.
 not-so : (b : Bool) → (b ≡ true → ⊥) → b ≡ false
@@ -132,7 +133,7 @@ module _ (n idle : ℕ) (rules words totals : List ℕ) where
   pub unbegun : {number place : ℕ} → beginAnswer n idle rules ≡ refused number place → (isKept rules totals && good (stateOf n idle rules words totals)) ≡ false
   unfolding beginAnswer
   unbegun {number} {place} e = not-so (isKept rules totals && good (stateOf n idle rules words totals)) (λ h.
-      let (k, g) = and-true (isKept rules totals) (good (stateOf n idle rules words totals)) h in
+      let (k, g) = both-true (isKept rules totals) (good (stateOf n idle rules words totals)) h in
       let p = parts (stateOf n idle rules words totals) g in
       let d : limitsAnswer n rows (settingsOf rules) 0 ≡ refused number place = rw (p .cells, p .idle, kept-tests totals rules k .0) at e in
       let q : false ≡ true = sym (ap (passes {A = Unit {0}}) d) ∙ p .rules in
@@ -143,7 +144,7 @@ module _ (n idle : ℕ) (rules words totals : List ℕ) where
 
   valid-long : (ss : _) → validRecord ss words ≡ true → length words ≡ 80
   unfolding validRecord
-  valid-long ss h = eqb-true (length words) 80 (and-true (eqb (length words) 80) (everyBelow 16 (λ i. validSet (settingOf ss i) i words)) h .0)
+  valid-long ss h = eqb-true (length words) 80 (both-true (eqb (length words) 80) (everyBelow 16 (λ i. validSet (settingOf ss i) i words)) h .0)
 
   pub loaded : {r : Step} {st : Live} → beginAnswer n idle rules ≡ answer tt → st ≡ beginState n idle rules → Filled r st words totals → Loaded r rules words totals (stateOf n idle rules words totals)
   loaded {r} {st} e f g =
@@ -156,7 +157,7 @@ module _ (n idle : ℕ) (rules words totals : List ℕ) where
           s ∙ ap (λ (o : Live). record { cells = o .cells; idle = o .idle; settings = o .settings; states = record { words = words }; totals = totalsOf totals }) b,
         );
         unkept = λ why q. not-so (isKept rules totals && good (stateOf n idle rules words totals)) (λ h.
-            let (k, i) = and-true (isKept rules totals) (good (stateOf n idle rules words totals)) h in
+            let (k, i) = both-true (isKept rules totals) (good (stateOf n idle rules words totals)) h in
             let l : length words ≡ 80 = valid-long (settingsOf rules) (parts (stateOf n idle rules words totals) i .states) in
             let t : areTotals totals ≡ true = kept-tests totals rules k .1 in
             let a : (eqb (length words) 80 && areTotals totals) ≡ true = rw (eq-eqb (length words) 80 l, t) in

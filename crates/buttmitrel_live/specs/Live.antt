@@ -4,10 +4,10 @@ use mathlib.Core.Bool.{Bool, cond, _&&_}
 use mathlib.Core.List.{List, [], _∷_}
 use lib.Dec.{leb, eqb}
 use lib.ListN.{length, getD}
+use Rattle.lists.specs.Lists.{tabulate}
 use Rattle.refusals.specs.Refusals.{Answer, answer, refused}
 use Rattle.rules.specs.Samples.{Sample}
 use Rattle.limits.specs.Limits.{settingsOf}
-use Rattle.fillings.specs.PossibleStates.{tabulate}
 use Rattle.report.specs.declared.Totals.{Totals}
 use Rattle.report.specs.Layout.{reportAnswer, reported}
 use Rattle.live.specs.declared.Live.{Live}

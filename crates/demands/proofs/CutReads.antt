@@ -3,6 +3,7 @@ use Prim.Native.Nat.{ℕ, zero, suc, _<_}
 use native.Mathlib.Omega.{arith}
 use mathlib.Core.Path.{_≡_, refl, ap, ap₂, _∙_}
 use mathlib.Core.List.{_∷_}
+use Rattle.lists.specs.Lists.{tabulate}
 use Rattle.rules.specs.Table.{rows}
 use Rattle.rules.specs.Evaluation.{alert, status}
 use Rattle.flags.specs.declared.Output.{Output}
@@ -10,7 +11,7 @@ use Rattle.flags.specs.declared.Output.the-variants.{ChargeOpen, DischargeOpen,
 use Rattle.flags.specs.Flags.{numberOf}
 use Rattle.flags.specs.Outputs.{drivers, outputOf}
 use Rattle.fillings.specs.Fillings.{Rule, last}
-use Rattle.fillings.specs.PossibleStates.{tabulate, possible}
+use Rattle.fillings.specs.PossibleStates.{possible}
 use Rattle.fillings.specs.Flags.{flag, alertFlag, statusFlag}
 use Rattle.fillings.proofs.Local.{possible-local}
 use Rattle.ticks.specs.Traces.{Trace, shown, Accepted}

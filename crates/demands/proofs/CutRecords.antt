@@ -7,12 +7,12 @@ use native.Mathlib.Omega.{arith}
 use lib.ListN.{length, take}
 use lib.Dec.{ltb, leb}
 use borrow.Author.Tests.{ltb-false, le-leb, lt-leb}
+use Rattle.lists.proofs.Bools.{both-false, by-order}
 use Rattle.refusals.specs.Refusals.{answer}
 use Rattle.trace.specs.Records.{Hole, Reply, Stamped}
 use Rattle.trace.specs.Coverage.{repliesAnswer}
 use Rattle.refusals.proofs.Answers.{unless}
 use Rattle.ticks.specs.Cut.{cutHoles, cutReplies, cutSamples}
-use Rattle.ticks.proofs.Tests.{by-order, or-false}
 use Rattle.ticks.specs.Places.{Place, done, hole, sample}
 use Rattle.ticks.proofs.Cuts.{no-samples}
 
@@ -32,7 +32,7 @@ next-reply : (m i low : ℕ) (r : Reply) (rs : List Reply) → repliesAnswer m (
 unfolding repliesAnswer
 next-reply m i low r rs e =
     let p = unless (ltb (r .tick) low || leb m (r .tick)) 10 i _ e in
-    (ltb-false (r .tick) low (or-false (ltb (r .tick) low) _ (p .0) .0), p .1)
+    (ltb-false (r .tick) low (both-false (ltb (r .tick) low) _ (p .0) .0), p .1)
 
 no-replies : (t m : ℕ) (rs : List Reply) (i low : ℕ) → repliesAnswer m rs i low ≡ answer tt → t < low → cutReplies t rs ≡ []
 unfolding cutReplies

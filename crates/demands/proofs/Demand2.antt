@@ -6,6 +6,8 @@ use mathlib.Core.Bool.{Bool, true, false, not, cond, _||_}
 use mathlib.Core.List.{List, [], _∷_, map}
 use lib.Dec.{T, ltb, leb}
 use borrow.Author.Tests.{leb-false}
+use Rattle.lists.specs.Lists.{tabulate}
+use Rattle.lists.proofs.Bools.{both-false}
 use Rattle.refusals.specs.Refusals.{answer}
 use Rattle.rules.specs.declared.Row.{Row}
 use Rattle.rules.specs.Table.{rows}
@@ -22,12 +24,10 @@ use Rattle.trace.specs.Records.{Reply}
 use Rattle.trace.specs.Sections.{samplesPart}
 use Rattle.trace.specs.Coverage.{repliesAnswer}
 use Rattle.refusals.proofs.Answers.{unless}
-use Rattle.fillings.specs.PossibleStates.{tabulate}
 use Rattle.fillings.specs.Flags.{statusFlag}
 use Rattle.fillings.proofs.Witness.{blank, blank-carried}
 use Rattle.ticks.specs.Traces.{Trace, traceOf, shown, Accepted}
 use Rattle.ticks.proofs.AcceptedBytes.{accepted}
-use Rattle.ticks.proofs.Tests.{or-false}
 use Rattle.ticks.proofs.CoveredOnce.{covered-once}
 use Rattle.demands.specs.Verdicts.{tickOf, verdictOn, traceVerdicts}
 use Rattle.demands.specs.Reading.{ruleIn, Fills, UnderEvery, UnderSome}
@@ -118,7 +118,7 @@ module _ (tr : Trace) (ok : Accepted tr) (none : tr .holes ≡ []) where
   verdicts-run [] i low e = refl
   verdicts-run (r ∷ rs) i low e =
       let p = unless (ltb (r .tick) low || leb (tr .ticks) (r .tick)) 10 i _ e in
-      let l = leb-false (tr .ticks) (r .tick) (or-false (ltb (r .tick) low) _ (p .0) .1) in
+      let l = leb-false (tr .ticks) (r .tick) (both-false (ltb (r .tick) low) _ (p .0) .1) in
       ap₂ (λ v vs. v ∷ vs) (verdict-run r (omega arith)) (verdicts-run rs (suc i) (r .tick) (p .1))
 
   verdicts-all : traceVerdicts tr ≡ map (runVerdict tr) (tr .replies)

@@ -6,6 +6,7 @@ use mathlib.Core.List.{List, [], _∷_}
 use native.Mathlib.Omega.{arith}
 use lib.Dec.{T}
 use borrow.Author.Tests.{lt-ltb, ne-eqb}
+use Rattle.lists.specs.Lists.{tabulate}
 use Rattle.rules.specs.declared.Row.{Row}
 use Rattle.rules.specs.Table.{rows}
 use Rattle.rules.specs.Evaluation.{status}
@@ -16,7 +17,6 @@ use Rattle.flags.specs.declared.Output.the-variants.{ChargeOpen, DischargeOpen,
 use Rattle.flags.specs.Flags.{withNext}
 use Rattle.flags.specs.Outputs.{drivers, outputOf}
 use Rattle.fillings.specs.Fillings.{last, after}
-use Rattle.fillings.specs.PossibleStates.{tabulate}
 use Rattle.fillings.specs.Flags.{alertFlag, statusFlag}
 use Rattle.fillings.specs.Outputs.{output}
 use Rattle.ticks.specs.Traces.{Trace, shown, Accepted}

@@ -6,18 +6,17 @@ use mathlib.Core.Bool.{Bool, true, false, not, cond, _||_}
 use mathlib.Core.List.{List, [], _∷_}
 use lib.Dec.{T, eqb}
 use lib.IntN.{_+ℤ_}
+use Rattle.lists.proofs.Bools.{is-true, by-order}
 use Rattle.rules.specs.Samples.{Sample, Carried}
 use Rattle.rules.specs.Evaluation.{evaluated}
 use Rattle.trace.specs.Records.{Stamped}
 use Rattle.fillings.specs.Fillings.{Rule, Shown, seen, unseen, Filling, filled, evaluate, after}
 use Rattle.fillings.specs.Charge.{netCharge}
 use Rattle.fillings.specs.Demand3.{Always, Sometimes, Sure, Judged}
-use Rattle.fillings.proofs.Bools.{is-true}
 use Rattle.fillings.proofs.Witness.{blank, blank-carried}
 use Rattle.fillings.proofs.Demand3.{judged}
 use Rattle.ticks.specs.Traces.{Trace, shown, shownIn, hasSample, inHole, Accepted}
 use Rattle.ticks.specs.Promises.{CoveredOnce}
-use Rattle.ticks.proofs.Tests.{by-order}
 use Rattle.ticks.proofs.CoveredOnce.{covered-once}
 use Rattle.demands.specs.Reading.{ruleIn, Fills, UnderEvery, UnderSome, SureAt}
 

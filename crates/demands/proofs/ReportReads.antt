@@ -7,6 +7,7 @@ use native.Mathlib.Omega.{arith}
 use native.Mathlib.Nat.{add-zero}
 use lib.ListN.{length, getD, drop, length-append, List·getD-append}
 use lib.Seq.{drop-at, drop-append-add}
+use Rattle.lists.specs.Lists.{tabulate}
 use Rattle.bytes_le.specs.Numbers.{u32At, u64At}
 use Rattle.bytes_le.specs.Writing.{bytesOf}
 use Rattle.bytes_le.proofs.ByteLists.{byte-behind, u32-behind, u64-behind}
@@ -17,7 +18,6 @@ use Rattle.flags.specs.Outputs.{drivers}
 use Rattle.report.specs.declared.FirstTicks.{FirstTicks}
 use Rattle.report.specs.declared.Totals.{Totals}
 use Rattle.report.specs.Layout.{ruleBytes, rulesBytes, outputBytes, totalBytes, reportBytes}
-use Rattle.fillings.specs.PossibleStates.{tabulate}
 use Rattle.fillings.specs.Flags.{ruleFlags, alertFlag, statusFlag, firstFrom, firstPossible, firstHeld}
 use Rattle.fillings.specs.Outputs.{output}
 use Rattle.fillings.specs.Charge.{chargeIn, chargeOut, unseenTicks}

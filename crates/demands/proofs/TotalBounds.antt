@@ -6,9 +6,10 @@ use native.Mathlib.Omega.{arith}
 use lib.IntN.{ℤ, pos, negsuc}
 use lib.Dec.{eqb}
 use lib.ListN.{length}
+use Rattle.lists.specs.Lists.{Every}
 use Rattle.bytes_le.specs.Numbers.{u16At}
 use Rattle.bytes_le.proofs.Signed.{signed-small}
-use Rattle.rules.specs.Samples.{Every, I16}
+use Rattle.rules.specs.Samples.{I16}
 use Rattle.trace.specs.Records.{Stamped, stampedAt, samplesFrom, sampleWidth}
 use Rattle.trace.proofs.SampleBytes.{every-spaced}
 use Rattle.trace.proofs.TickBounds.{ticks-small}

@@ -5,6 +5,7 @@ use mathlib.Core.Bool.{Bool, cond}
 use mathlib.Core.List.{List, [], _∷_, map}
 use lib.Dec.{T}
 use lib.ListN.{length, take}
+use Rattle.lists.specs.Lists.{tabulate}
 use Rattle.refusals.specs.Refusals.{answer}
 use Rattle.bytes_le.specs.Numbers.{u32At, u64At}
 use Rattle.rules.specs.Table.{rows}
@@ -20,7 +21,6 @@ use Rattle.verdicts.specs.Verdicts.{verdictOf}
 use Rattle.trace.specs.Records.{Reply, Stamped}
 use Rattle.trace.specs.Acceptance.{Parsed, acceptAnswer}
 use Rattle.fillings.specs.Fillings.{Rule, last, evaluate}
-use Rattle.fillings.specs.PossibleStates.{tabulate}
 use Rattle.fillings.specs.Charge.{inward, outward}
 use Rattle.fillings.specs.Demand3.{First}
 use Rattle.ticks.specs.Traces.{Trace, traceOf, shown}

@@ -1,11 +1,11 @@
 -- Paper 01, 'Three-way outputs': the report of a trace.
 use Prim.Native.Nat.{ℕ}
 use mathlib.Core.List.{List}
+use Rattle.lists.specs.Lists.{tabulate}
 use Rattle.report.specs.declared.FirstTicks.{FirstTicks}
 use Rattle.report.specs.declared.Totals.{Totals}
 use Rattle.report.specs.Layout.{reportBytes}
 use Rattle.fillings.specs.Fillings.{Shown, Config, ruleOf}
-use Rattle.fillings.specs.PossibleStates.{tabulate}
 use Rattle.fillings.specs.Flags.{flagsAt, firstPossible, firstHeld}
 use Rattle.fillings.specs.Charge.{chargeIn, chargeOut, unseenTicks}
 use Rattle.ticks.specs.Traces.{Trace, shown}

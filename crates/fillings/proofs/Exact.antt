@@ -7,12 +7,12 @@ use mathlib.Core.Bool.{Bool, true, false, not, cond, _&&_, _||_}
 use mathlib.Core.List.{List}
 use lib.Dec.{T, ltb, eqb, eqb→eq, eqb-refl}
 use borrow.Author.Tests.{ltb-true, ne-eqb}
+use Rattle.lists.proofs.Bools.{and-left, and-right, or-left, or-elim, is-true, some-elim, getD-tabulate, held-below}
 use Rattle.rules.specs.Samples.{Sample, Carried, readingsOf}
 use Rattle.rules.specs.Evaluation.{trips, clears, step, evaluated}
 use Rattle.fillings.specs.Fillings.{Rule, Sound, last, Shown, seen, unseen, Filling, filled, evaluate, after}
 use Rattle.fillings.specs.PossibleStates.{has, found, anything, moves, leads, next, possible}
 use Rattle.fillings.specs.Demand3.{Possible}
-use Rattle.fillings.proofs.Bools.{and-left, and-right, or-left, or-elim, is-true, some-elim, has-tabulate, has-below}
 use Rattle.fillings.proofs.Witness.{blank, blank-carried}
 use Rattle.fillings.proofs.Reach.{Reaches, off-or-within, reach-trip, reach-none, reach-clear}
 use Rattle.fillings.proofs.Next.{from-some, next-has, next-low, made}
@@ -160,8 +160,8 @@ came-from r ok w p s′ t =
 pub complete : (r : Rule) → Sound r → (trace : ℕ → Shown) (k s : ℕ) → T (has (possible r trace k) s) → Possible r trace k s
 unfolding after possible
 complete r ok trace zero s t =
-    let h = has-below (suc (last r)) (λ i. eqb i 0) s t in
-    let e = eqb→eq s 0 (rw (has-tabulate (suc (last r)) (λ i. eqb i 0) s h) at t) in
+    let h = held-below (suc (last r)) (λ i. eqb i 0) s t in
+    let e = eqb→eq s 0 (rw (getD-tabulate (suc (last r)) (λ i. eqb i 0) false s h) at t) in
     ((λ i. blank (r .cells)), (λ i u. blank-carried (r .cells)), sym e)
 complete r ok trace (suc k) s t = go (evaluated (r .row) k) t (complete r ok trace k)
   where

@@ -4,11 +4,11 @@ use mathlib.Core.Path.{_≡_, subst}
 use mathlib.Core.Bool.{Bool}
 use mathlib.Core.List.{List}
 use lib.Dec.{T}
+use Rattle.lists.proofs.Bools.{and-left}
 use Rattle.rules.specs.Samples.{Sample, readingsOf}
 use Rattle.rules.specs.Evaluation.{clears}
 use Rattle.fillings.specs.Fillings.{Rule, seen, unseen}
 use Rattle.fillings.specs.PossibleStates.{has, Moves, moves, next}
-use Rattle.fillings.proofs.Bools.{and-left}
 use Rattle.fillings.proofs.Next.{next-low, reached, by-up, by-restart, by-leave, by-stay}
 
 -- Every move of w is one of v.

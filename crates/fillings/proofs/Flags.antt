@@ -7,16 +7,17 @@ use mathlib.Core.Logic.{_↔_, _⊎_, inl, inr, ⊎-elim}
 use mathlib.Core.Bool.{Bool, true, false, not, cond, _&&_}
 use mathlib.Core.List.{List}
 use lib.Dec.{T, T-not, not-T}
+use Rattle.lists.specs.Lists.{someBelow}
+use Rattle.lists.proofs.Bools.{and-left, and-right, both, is-true, refuted, some-intro, some-elim}
 use Rattle.rules.specs.Samples.{Sample}
 use Rattle.rules.specs.Evaluation.{status}
 use Rattle.flags.specs.declared.Flag.{Flag}
 use Rattle.flags.specs.declared.Flag.the-variants.{Clear, Held, Unknown}
 use Rattle.flags.specs.Flags.{flagOf}
 use Rattle.fillings.specs.Fillings.{Rule, Sound, last, Shown, after}
-use Rattle.fillings.specs.PossibleStates.{someBelow, has, possible}
+use Rattle.fillings.specs.PossibleStates.{has, possible}
 use Rattle.fillings.specs.Flags.{flag, statusFlag, notClear, isHeld, firstFrom, firstPossible, firstHeld}
 use Rattle.fillings.specs.Demand3.{Always, Sometimes, First}
-use Rattle.fillings.proofs.Bools.{and-left, and-right, both, is-true, refuted, some-intro, some-elim}
 use Rattle.fillings.proofs.Exact.{after-le, sound, some-possible, complete}
 
 held-none : (a b : Bool) → flagOf a b ≡ Held → b ≡ false

@@ -1,4 +1,3 @@
-pub mod Bools
 pub mod Integers
 pub mod Next
 pub mod Fewer

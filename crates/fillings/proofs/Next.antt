@@ -4,13 +4,14 @@ use native.Mathlib.Omega.{arith}
 use native.Mathlib.Nat.{eq-or-lt-of-le}
 use mathlib.Core.Path.{_≡_, ap, subst}
 use mathlib.Core.Logic.{⊎-elim}
-use mathlib.Core.Bool.{Bool, cond, _&&_, _||_}
+use mathlib.Core.Bool.{Bool, false, cond, _&&_, _||_}
 use mathlib.Core.List.{List}
 use lib.ListN.{length}
 use lib.Dec.{T, eqb, eqb→eq, eqb-refl}
 use borrow.Author.Tests.{lt-ltb, le-ltb}
-use Rattle.fillings.specs.PossibleStates.{someBelow, has, Moves, leads, next}
-use Rattle.fillings.proofs.Bools.{and-left, and-right, both, or-left, or-right, or-elim, some-intro, some-elim, has-tabulate, has-below, length-tabulate, bool-ext}
+use Rattle.lists.specs.Lists.{someBelow}
+use Rattle.lists.proofs.Bools.{and-left, and-right, both, or-left, or-right, or-elim, bool-ext, some-intro, some-elim, length-tabulate, getD-tabulate, held-below}
+use Rattle.fillings.specs.PossibleStates.{has, Moves, leads, next}
 
 -- the test that the set after an evaluation tabulates
 abbrev pub from-some : ℕ → Moves → List Bool → ℕ → ℕ → Bool
@@ -23,11 +24,11 @@ module _ (m : ℕ) (w : Moves) (p : List Bool) where
 
   pub next-has : (s′ : ℕ) → s′ ≤ m → has (next m w p) s′ ≡ someBelow (suc m) (from-some m w p s′)
   unfolding next
-  next-has s′ h = has-tabulate (suc m) (λ t. someBelow (suc m) (from-some m w p t)) s′ (omega arith)
+  next-has s′ h = getD-tabulate (suc m) (λ t. someBelow (suc m) (from-some m w p t)) false s′ (omega arith)
 
   pub next-low : (s : ℕ) → T (has (next m w p) s) → s ≤ m
   unfolding next
-  next-low s t = let l = has-below (suc m) (λ s′. someBelow (suc m) (from-some m w p s′)) s t in omega arith
+  next-low s t = let l = held-below (suc m) (λ s′. someBelow (suc m) (from-some m w p s′)) s t in omega arith
 
   leads-below : (s s′ : ℕ) → s < m → leads m w s s′ ≡ (w .up && eqb (suc s) s′ || w .restart && eqb 0 s′)
   unfolding leads

@@ -5,6 +5,8 @@ use mathlib.Core.Path.{_≡_, refl}
 use mathlib.Core.Bool.{Bool, true, false, not, cond, _||_}
 use mathlib.Core.List.{List, [], _∷_}
 use lib.Dec.{T}
+use Rattle.lists.specs.Lists.{tabulate}
+use Rattle.lists.proofs.Bools.{or-left, or-right}
 use Rattle.rules.specs.declared.Row.{Row}
 use Rattle.rules.specs.Table.{rows}
 use Rattle.rules.specs.Evaluation.{status}
@@ -13,10 +15,8 @@ use Rattle.flags.specs.declared.Flag.the-variants.{Clear, Held, Unknown}
 use Rattle.flags.specs.Flags.{withNext}
 use Rattle.flags.specs.Outputs.{outputOf, activeOf}
 use Rattle.fillings.specs.Fillings.{Shown, Config, SoundConfig, ruleOf, last, after}
-use Rattle.fillings.specs.PossibleStates.{tabulate}
 use Rattle.fillings.specs.Flags.{statusFlag}
 use Rattle.fillings.specs.Demand3.{OutputSound}
-use Rattle.fillings.proofs.Bools.{or-left, or-right}
 use Rattle.fillings.proofs.Flags.{held-exactly, clear-exactly}
 
 neither : (a b : Bool) → T (not a) → T (not b) → T (not (a || b))

@@ -6,6 +6,7 @@ use mathlib.Core.Bool.{Bool, true, false, _&&_}
 use lib.IntN.{ℤ}
 use lib.Signed.{ltZ, leZ}
 use lib.Dec.{T, leb, eqb, eqb→eq, le→leb}
+use Rattle.lists.proofs.Bools.{and-right, both, three, or-elim, is-true, refuted}
 use Rattle.rules.specs.declared.Quantity.{Quantity}
 use Rattle.rules.specs.declared.Quantity.the-variants.{HighestCell, LowestCell, SumOfCells, Current, HighestTempCharging, HighestTempDischarging, Board, LowestTempDischarging, CellDifference}
 use Rattle.rules.specs.declared.Side.{Side}
@@ -16,7 +17,6 @@ use Rattle.rules.specs.Quantities.{value, qualified, least, most}
 use Rattle.limits.specs.Limits.{limits, within, isZero}
 use Rattle.rules.specs.Evaluation.{beyond, opposite, trips, clears, top}
 use Rattle.fillings.specs.Fillings.{Rule, Sound, last}
-use Rattle.fillings.proofs.Bools.{and-right, both, or-elim, three, is-true, refuted}
 use Rattle.fillings.proofs.Integers.{le-self, lt-le, lt-then-le, clash, le-then-le, no-cycle}
 use Rattle.fillings.proofs.Witness.{witness, InRange, witness-carried, witness-value, witness-qualified}
 

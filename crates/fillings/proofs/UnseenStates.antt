@@ -6,8 +6,9 @@ use mathlib.Core.List.{List}
 use native.Mathlib.Omega.{arith}
 use lib.Dec.{T}
 use lib.ListN.{length}
-use Rattle.fillings.specs.PossibleStates.{someBelow, has, anything, unseenTimes}
-use Rattle.fillings.proofs.Bools.{is-true}
+use Rattle.lists.specs.Lists.{someBelow}
+use Rattle.lists.proofs.Bools.{is-true}
+use Rattle.fillings.specs.PossibleStates.{has, anything, unseenTimes}
 use Rattle.fillings.proofs.Next.{next-between, next-top}
 use Rattle.fillings.proofs.Still.{fills, stays, kept}
 

@@ -9,11 +9,12 @@ use lib.IntN.{ℤ, pos, negsuc, negℤ, natAbs}
 use lib.Signed.{ltZ, leZ}
 use lib.Dec.{T, leb→le, lt→ltb, lit<}
 use lib.ListN.{length, replicate, length-replicate}
+use Rattle.lists.specs.Lists.{Every}
+use Rattle.lists.proofs.Bools.{is-true}
 use Rattle.rules.specs.declared.Quantity.{Quantity}
 use Rattle.rules.specs.declared.Quantity.the-variants.{HighestCell, LowestCell, SumOfCells, Current, HighestTempCharging, HighestTempDischarging, Board, LowestTempDischarging, CellDifference}
-use Rattle.rules.specs.Samples.{Sample, Every, U16, I16, Carried, highest, lowest, sum, highestZ, lowestZ, readingsOf}
+use Rattle.rules.specs.Samples.{Sample, U16, I16, Carried, highest, lowest, sum, highestZ, lowestZ, readingsOf}
 use Rattle.rules.specs.Quantities.{value, qualified, least, most}
-use Rattle.fillings.proofs.Bools.{is-true}
 
 every-replicate {ℓ} : {A : Type ℓ} (P : A → Type 0) (n : ℕ) (a : A) → P a → Every P (replicate n a)
 every-replicate P zero a h = tt

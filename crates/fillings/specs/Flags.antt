@@ -2,6 +2,7 @@
 use Prim.Native.Nat.{ℕ, zero, suc}
 use mathlib.Core.Bool.{Bool, true, false, not, cond, _&&_}
 use mathlib.Core.List.{List}
+use Rattle.lists.specs.Lists.{tabulate, someBelow}
 use Rattle.flags.specs.declared.Flag.{Flag}
 use Rattle.flags.specs.declared.Flag.the-variants.{Clear, Held, Unknown}
 use Rattle.flags.specs.declared.RuleFlags.{RuleFlags}
@@ -9,7 +10,7 @@ use Rattle.flags.specs.Flags.{flagOf}
 use Rattle.rules.specs.declared.Row.{Row}
 use Rattle.rules.specs.Evaluation.{alert, status}
 use Rattle.fillings.specs.Fillings.{Rule, last, Shown, Config, ruleOf}
-use Rattle.fillings.specs.PossibleStates.{tabulate, someBelow, has, possible}
+use Rattle.fillings.specs.PossibleStates.{has, possible}
 
 -- The flag of a property of states over a set of the states 0 to m.
 unfoldable pub flag : ℕ → (ℕ → Bool) → List Bool → Flag

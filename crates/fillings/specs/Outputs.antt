@@ -2,6 +2,7 @@
 use Prim.Native.Nat.{ℕ}
 use mathlib.Core.Bool.{Bool}
 use mathlib.Core.List.{List}
+use Rattle.lists.specs.Lists.{tabulate}
 use Rattle.rules.specs.declared.Row.{Row}
 use Rattle.rules.specs.Samples.{Sample}
 use Rattle.rules.specs.Table.{rows}
@@ -9,7 +10,6 @@ use Rattle.rules.specs.Evaluation.{status}
 use Rattle.flags.specs.declared.Flag.{Flag}
 use Rattle.flags.specs.Outputs.{outputOf, activeOf}
 use Rattle.fillings.specs.Fillings.{Config, ruleOf, last, Shown, after}
-use Rattle.fillings.specs.PossibleStates.{tabulate}
 use Rattle.fillings.specs.Flags.{statusFlag}
 
 -- The statuses of the sixteen rules once the first k ticks have passed.

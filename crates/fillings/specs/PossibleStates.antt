@@ -4,19 +4,10 @@ use mathlib.Core.Bool.{Bool, true, false, not, cond, _&&_, _||_}
 use mathlib.Core.List.{List, [], _∷_}
 use lib.Dec.{ltb, eqb}
 use lib.ListN.{getD}
+use Rattle.lists.specs.Lists.{tabulate, someBelow}
 use Rattle.rules.specs.Samples.{readingsOf}
 use Rattle.rules.specs.Evaluation.{trips, clears, evaluated}
 use Rattle.fillings.specs.Fillings.{Rule, last, Shown, seen, unseen}
-
--- The list of f 0, f 1, .. f (n − 1).
-abbrev pub tabulate {ℓ} : {A : Type ℓ} → ℕ → (ℕ → A) → List A
-tabulate zero f = []
-tabulate (suc n) f = f 0 ∷ tabulate n (λ i. f (suc i))
-
--- Whether a test holds of some number below n.
-abbrev pub someBelow : ℕ → (ℕ → Bool) → Bool
-someBelow zero f = false
-someBelow (suc n) f = f 0 || someBelow n (λ i. f (suc i))
 
 -- A set of the states 0 to m is m + 1 Booleans; whether a state is in it.
 abbrev pub has : List Bool → ℕ → Bool

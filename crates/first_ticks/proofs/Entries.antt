@@ -8,18 +8,17 @@ use lib.ListN.{getD, length, set, length-set}
 use lib.Seq.{getD-set-same, getD-set-other, set-getD, ext-getD}
 use borrow.Author.Count.{below-more}
 use borrow.Author.Tests.{eq-eqb, ne-eqb}
+use Rattle.lists.specs.Lists.{tabulate}
+use Rattle.lists.proofs.Bools.{length-tabulate, getD-tabulate}
 use Rattle.rules.specs.declared.Setting.{Setting}
 use Rattle.flags.specs.declared.Flag.{Flag}
 use Rattle.flags.specs.declared.Flag.the-variants.{Clear, Held, Unknown}
-use Rattle.fillings.specs.PossibleStates.{tabulate}
-use Rattle.fillings.proofs.Bools.{length-tabulate}
 use Rattle.rules.specs.Evaluation.{top, status}
 use Rattle.fillings.specs.Flags.{flag, notClear, isHeld}
 use Rattle.states.specs.Records.{statesOf, ruleWords}
 use Rattle.states.specs.Steps.{settingOf}
 use Rattle.states.specs.Readings.{statusOf, statusIn}
 use Rattle.states.proofs.OneRule.{status-of-rule}
-use Rattle.states.proofs.RuleWords.{getD-tabulate}
 use Rattle.first_ticks.proofs.FirstLaws.{noted-same}
 use Rattle.first_ticks.specs.Firsts.{none, noted, notedSeen, firstUnseen, notedUnseen}
 

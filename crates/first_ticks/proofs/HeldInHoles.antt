@@ -8,12 +8,13 @@ use mathlib.Core.Bool.{Bool, true, false, not, cond, _&&_}
 use mathlib.Core.List.{List}
 use lib.Dec.{T, ltb, eqb, eqb→eq, eqb-refl, T-not}
 use borrow.Author.Tests.{lt-ltb, ltb-true, ne-eqb}
+use Rattle.lists.specs.Lists.{someBelow}
+use Rattle.lists.proofs.Bools.{and-left, and-right, both, is-true, refuted, some-intro, some-elim}
 use Rattle.rules.specs.Evaluation.{status, evaluated}
 use Rattle.flags.specs.Flags.{flagOf}
 use Rattle.fillings.specs.Fillings.{Rule, last, Shown, unseen}
-use Rattle.fillings.specs.PossibleStates.{someBelow, has, anything, moves, next, start, possible}
+use Rattle.fillings.specs.PossibleStates.{has, anything, moves, next, start, possible}
 use Rattle.fillings.specs.Flags.{flag, statusFlag, isHeld, firstHeld}
-use Rattle.fillings.proofs.Bools.{and-left, and-right, both, is-true, refuted, some-intro, some-elim}
 use Rattle.fillings.proofs.Next.{reached, by-restart}
 use Rattle.first_ticks.specs.Firsts.{none, noted}
 use Rattle.first_ticks.proofs.FirstLaws.{first-snoc, first-kept, noted-same}

@@ -5,11 +5,11 @@ use mathlib.Core.Bool.{Bool, true, false, cond}
 use native.Mathlib.Omega.{arith}
 use lib.Dec.{T, eqb}
 use borrow.Author.Tests.{ne-eqb}
+use Rattle.lists.specs.Lists.{someBelow}
+use Rattle.lists.proofs.Bools.{is-true, refuted, some-intro, some-elim}
 use Rattle.rules.specs.declared.Row.{Row}
-use Rattle.fillings.specs.PossibleStates.{someBelow}
 use Rattle.fillings.specs.Flags.{firstFrom}
 use Rattle.fillings.specs.Demand3.{evaluations}
-use Rattle.fillings.proofs.Bools.{is-true, refuted, some-intro, some-elim}
 use Rattle.fillings.proofs.Evaluations.{evaluations-every, evaluations-even}
 use Rattle.first_ticks.specs.Firsts.{none}
 use Rattle.first_ticks.proofs.Searches.{Found, is-found, is-missing, found, missing}

@@ -5,9 +5,10 @@ use mathlib.Core.Bool.{Bool, true, false, not, _&&_, and-false, or-false}
 use mathlib.Core.List.{List}
 use native.Mathlib.Omega.{arith}
 use lib.ListN.{length}
+use Rattle.lists.specs.Lists.{someBelow}
 use Rattle.rules.specs.Evaluation.{status}
 use Rattle.flags.specs.Flags.{flagOf}
-use Rattle.fillings.specs.PossibleStates.{someBelow, has, unseenTimes}
+use Rattle.fillings.specs.PossibleStates.{has, unseenTimes}
 use Rattle.fillings.specs.Flags.{flag, notClear}
 use Rattle.fillings.proofs.Still.{still}
 use Rattle.fillings.proofs.UnseenStates.{below-top, top-within}

@@ -5,26 +5,22 @@ use mathlib.Core.Path.{_≡_, refl, ap, ap₂, sym, _∙_}
 use mathlib.Core.Bool.{Bool, cond}
 use mathlib.Core.List.{List, _∷_}
 use lib.ListN.{getD}
+use Rattle.lists.specs.Lists.{tabulate}
+use Rattle.lists.proofs.Bools.{getD-tabulate, tabulate-same}
 use Rattle.rules.specs.Table.{rowAt}
 use Rattle.flags.specs.declared.Flag.{Flag}
 use Rattle.fillings.specs.Fillings.{last, Shown, unseen, Config, ruleOf}
-use Rattle.fillings.specs.PossibleStates.{tabulate, unseenTimes}
+use Rattle.fillings.specs.PossibleStates.{unseenTimes}
 use Rattle.fillings.specs.Flags.{flagsOf, statusFlag, notClear, isHeld, firstFrom}
 use Rattle.fillings.proofs.Still.{possible-hole}
 use Rattle.states.specs.Steps.{settingOf, setOf, evaluationsOf}
 use Rattle.states.specs.Readings.{statusOf}
 use Rattle.states.specs.Tracking.{recordAt, ShortTimes}
-use Rattle.states.proofs.RuleWords.{getD-tabulate}
 use Rattle.states.proofs.Tracking.{set-at}
 use Rattle.first_ticks.specs.Firsts.{none, noted, notedSeen, firstUnseen, notedUnseen}
 use Rattle.first_ticks.specs.Tracking.{possibleAt, heldAt, FirstsTracked}
 use Rattle.first_ticks.proofs.FirstLaws.{first-parts, first-snoc, first-same}
 use Rattle.first_ticks.proofs.HeldInHoles.{held-over-hole}
-
-tabulate-same : (n : ℕ) (f g : ℕ → ℕ) → ((i : ℕ) → i < n → f i ≡ g i) → tabulate n f ≡ tabulate n g
-tabulate-same zero f g h = refl
-tabulate-same (suc n) f g h =
-    ap₂ _∷_ (h 0 (omega arith)) (tabulate-same n (λ i. f (suc i)) (λ i. g (suc i)) (λ i l. h (suc i) (omega arith)))
 
 -- What is noted at each of sixteen first ticks.
 noted-each : (found firsts new : ℕ → ℕ) → ((i : ℕ) → i < 16 → noted (found i) (firsts i) ≡ new i)

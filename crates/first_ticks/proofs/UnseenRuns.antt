@@ -5,14 +5,15 @@ use mathlib.Core.Bool.{Bool, false}
 use mathlib.Core.List.{List}
 use native.Mathlib.Omega.{arith}
 use lib.ListN.{length}
+use Rattle.lists.specs.Lists.{someBelow}
+use Rattle.lists.proofs.Bools.{length-tabulate}
 use Rattle.rules.specs.declared.Row.{Row}
 use Rattle.rules.specs.declared.Setting.{Setting}
 use Rattle.rules.specs.Table.{rowAt}
 use Rattle.rules.specs.Evaluation.{top, status}
-use Rattle.fillings.specs.PossibleStates.{someBelow, unseenTimes}
+use Rattle.fillings.specs.PossibleStates.{unseenTimes}
 use Rattle.fillings.specs.Flags.{flag, flagsOf, notClear, firstFrom}
 use Rattle.fillings.specs.Demand3.{evaluations}
-use Rattle.fillings.proofs.Bools.{length-tabulate}
 use Rattle.states.specs.Records.{at, statesOf, ruleWords}
 use Rattle.states.specs.Steps.{setOf, evaluationsOf}
 use Rattle.states.specs.Readings.{allowed}

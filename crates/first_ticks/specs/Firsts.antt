@@ -4,11 +4,12 @@ use mathlib.Core.Bool.{Bool, cond, _&&_}
 use mathlib.Core.List.{List}
 use lib.Dec.{eqb}
 use lib.ListN.{getD, length}
+use Rattle.lists.specs.Lists.{tabulate}
 use Rattle.rules.specs.declared.Setting.{Setting}
 use Rattle.rules.specs.Table.{rowAt}
 use Rattle.rules.specs.Evaluation.{top}
 use Rattle.flags.specs.declared.Flag.{Flag}
-use Rattle.fillings.specs.PossibleStates.{tabulate, unseenTimes}
+use Rattle.fillings.specs.PossibleStates.{unseenTimes}
 use Rattle.fillings.specs.Flags.{flagsOf, notClear, firstFrom}
 use Rattle.states.specs.Steps.{settingOf, setOf, evaluationsOf}
 use Rattle.states.specs.Readings.{statusOf}

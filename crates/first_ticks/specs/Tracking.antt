@@ -2,8 +2,8 @@
 use Prim.Native.Nat.{ℕ, suc, _≤_, _<_}
 use mathlib.Core.Path.{_≡_}
 use mathlib.Core.List.{List}
+use Rattle.lists.specs.Lists.{tabulate}
 use Rattle.fillings.specs.Fillings.{Shown, unseen, Config, ruleOf}
-use Rattle.fillings.specs.PossibleStates.{tabulate}
 use Rattle.fillings.specs.Flags.{notClear, isHeld, firstPossible, firstHeld}
 use Rattle.states.specs.Tracking.{recordAt}
 use Rattle.first_ticks.specs.Firsts.{none, notedSeen, notedUnseen}

@@ -3,11 +3,11 @@ use Prim.Native.Nat.{ℕ}
 use mathlib.Core.Path.{_≡_, refl, sym, ap, ap₂, subst, _∙_}
 use mathlib.Core.List.{List}
 use native.Mathlib.Omega.{arith}
+use Rattle.lists.specs.Lists.{tabulate}
 use Rattle.flags.specs.declared.RuleFlags.{RuleFlags}
 use Rattle.report.specs.declared.FirstTicks.{FirstTicks}
 use Rattle.report.specs.declared.Totals.{Totals}
 use Rattle.report.specs.Layout.{reported}
-use Rattle.fillings.specs.PossibleStates.{tabulate}
 use Rattle.states.specs.Records.{fresh}
 use Rattle.states.specs.Readings.{allFlags}
 use Rattle.states.proofs.Tracking.{tracks}

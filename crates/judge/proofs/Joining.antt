@@ -5,12 +5,10 @@ use mathlib.Core.List.{List}
 use native.Mathlib.Omega.{arith}
 use lib.ListN.{getD, length, set, length-set}
 use lib.Seq.{ext-getD, getD-set-same, getD-set-other}
+use Rattle.lists.proofs.Bools.{getD-tabulate}
 use Rattle.report.specs.declared.FirstTicks.{FirstTicks}
 use Rattle.fillings.specs.Fillings.{Shown, Config, ruleOf}
 use Rattle.fillings.specs.Flags.{firstPossible, firstHeld}
-use Rattle.fillings.specs.PossibleStates.{tabulate}
-use Rattle.fillings.proofs.Bools.{length-tabulate}
-use Rattle.states.proofs.RuleWords.{getD-tabulate}
 use borrow.Author.Count.{below-more}
 use Rattle.first_ticks.specs.Tracking.{possibleAt, heldAt}
 use Rattle.demands.specs.Report.{firstsAt}

@@ -9,13 +9,13 @@ use lib.Dec.{ltb, leb}
 use lib.ListN.{length, take, drop, set, length-set, length-drop}
 use lib.Seq.{take-suc-set, length-take-le, take-all, append-snoc}
 use borrow.Author.Tests.{ltb-false, leb-false}
+use Rattle.lists.proofs.Bools.{both-false}
 use Rattle.refusals.specs.Refusals.{answer}
 use Rattle.bytes_le.specs.Numbers.{u32At, spaced}
 use Rattle.bytes_le.proofs.Spaced.{spaced-next}
 use Rattle.trace.specs.Records.{Reply, replyAt, repliesFrom, repliesIn}
 use Rattle.trace.specs.Coverage.{repliesAnswer}
 use Rattle.refusals.proofs.Answers.{unless}
-use Rattle.ticks.proofs.Tests.{or-false}
 use Rattle.ticks.proofs.Places.{place-low}
 use Rattle.verdicts.specs.declared.Tick.{Tick}
 use Rattle.verdicts.specs.declared.Alarms.{Alarms}
@@ -86,7 +86,7 @@ module _ {f : Frame} {holes samples replies : List ℕ} {words possible held ver
       let e = spaced-next (replyAt replies) 10 (length replies / 10 - j) (j * 10) (some h) in
       let a : repliesAnswer (f .ticks) (reply ∷ rest) j (g .low) ≡ answer tt = ap (λ (rs : List Reply). repliesAnswer (f .ticks) rs j (g .low)) (sym e) ∙ g .left in
       let u = unless (ltb (u32At replies (j * 10)) (g .low) || leb (f .ticks) (u32At replies (j * 10))) 10 j _ a in
-      let o = or-false (ltb (u32At replies (j * 10)) (g .low)) (leb (f .ticks) (u32At replies (j * 10))) (u .0) in
+      let o = both-false (ltb (u32At replies (j * 10)) (g .low)) (leb (f .ticks) (u32At replies (j * 10))) (u .0) in
       record { after = ltb-false _ _ (o .0); covered = leb-false _ _ (o .1); later = u .1 }
 
   pub in-replies : j < length verdicts → j * 10 + 10 ≤ length replies

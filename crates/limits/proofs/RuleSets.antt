@@ -1,18 +1,20 @@
 -- A rule set, checked rule by rule.
 use Prim.Native.Nat.{ℕ, zero, suc, _+_, _-_, _*_, _≤_, _<_}
-use mathlib.Core.Path.{_≡_, refl, ap, ap₂, sym, _∙_}
+use mathlib.Core.Path.{_≡_, refl, ap, sym, _∙_}
 use mathlib.Core.Bool.{Bool, true, false, cond, _&&_, _||_}
 use mathlib.Core.List.{List, [], _∷_, map, _++_, append-nil}
 use native.Mathlib.Numerals.{add-one}
 use native.Mathlib.Omega.{arith}
 use lib.IntN.{ℤ, pos, negsuc}
 use lib.Dec.{eqb, leb}
-use lib.ListN.{length, length-map, getD, take, set, length-set}
+use lib.ListN.{length, length-map, getD, take, drop, set, length-set, drop-of-length-le}
 use lib.Seq.{take-suc-set, take-all, append-snoc}
 use mir.Syntax.{w32}
 use mir.Val.{toZ, ofZ, SFits}
 use mir.Facts.{toZ-ofZ}
 use borrow.Author.Tests.{leb-true, leb-false, le-leb, ne-eqb}
+use Rattle.lists.specs.Lists.{tabulate}
+use Rattle.lists.proofs.Bools.{length-tabulate}
 use Rattle.refusals.specs.declared.Refusal.{Refusal}
 use Rattle.refusals.specs.Refusals.{Answer, answer, refused, refusal}
 use Rattle.refusals.proofs.Answers.{where-true}
@@ -27,7 +29,7 @@ use Rattle.limits.specs.declared.Checked.{Checked}
 use Rattle.limits.specs.declared.Checked.the-variants.{Accepted, Beyond}
 use Rattle.rules.specs.Table.{rowAt}
 use Rattle.rules.specs.Quantities.{least, most}
-use Rattle.limits.specs.Limits.{isZero, within, limits, settingAt, tabulateFrom, limitsAnswer, answerOfLimits, off, settingsIf}
+use Rattle.limits.specs.Limits.{isZero, within, limits, settingAt, limitsAnswer, answerOfLimits, off, settingsIf}
 
 pub zero-is : (z : ℤ) → SFits w32 z → eqb (ofZ w32 z) 0 ≡ isZero z
 zero-is (pos k) f = refl
@@ -101,26 +103,31 @@ beyond n row s {r} e q = go (limits n row s) refl
     go true b = let f = rw b at e in let z : _≡_ {A = ℕ} 0 1 = cc in absurd (omega arith)
     go false b = b
 
--- The list from i to the end m, one element further.
-tabulate-next : {A : Type 0} (m i : ℕ) (f : ℕ → A) → i < m → tabulateFrom i (m - i) f ≡ f i ∷ tabulateFrom (suc i) (m - suc i) f
-tabulate-next m i f h = let e : m - i ≡ suc (m - suc i) = omega arith in rw e
+-- The list from i on, one element further, and past its end.
+tabulate-next : {A : Type 0} (m i : ℕ) (f : ℕ → A) → i < m → drop i (tabulate m f) ≡ f i ∷ drop (suc i) (tabulate m f)
+tabulate-next zero i f h = absurd (omega arith)
+tabulate-next (suc m) zero f h = refl
+tabulate-next (suc m) (suc i) f h = tabulate-next m i (λ j. f (suc j)) (omega arith)
+
+tabulate-past : {A : Type 0} (m i : ℕ) (f : ℕ → A) → m ≤ i → drop i (tabulate m f) ≡ []
+tabulate-past m i f h = drop-of-length-le (tabulate m f) {i = i} (omega (arith, length-tabulate m f))
 
 -- What the check of the settings f of the first m rows answers.
 abbrev pub answered : ℕ → ℕ → (ℕ → Setting) → Answer (Unit {0})
-answered n m f = limitsAnswer n (tabulateFrom 0 m rowAt) (tabulateFrom 0 m f) 0
+answered n m f = limitsAnswer n (tabulate m rowAt) (tabulate m f) 0
 
 -- The first i of m settings are within their limits, and the answer is what the others answer.
 pub record Passed (n m : ℕ) (f : ℕ → Setting) (i : ℕ) : Type 0 where
   pub low : i ≤ m
-  pub left : answered n m f ≡ limitsAnswer n (tabulateFrom i (m - i) rowAt) (tabulateFrom i (m - i) f) i
+  pub left : answered n m f ≡ limitsAnswer n (drop i (tabulate m rowAt)) (drop i (tabulate m f)) i
 
 module _ {n m : ℕ} {f : ℕ → Setting} where
   pub passed-start : Passed n m f 0
-  passed-start = let e : m - 0 ≡ m = omega arith in record { low = omega arith; left = rw e }
+  passed-start = record { low = omega arith; left = refl }
 
   turn : {i : ℕ} → Passed n m f i → i < m
       → answered n m f
-      ≡ cond (limits n (rowAt i) (f i)) (limitsAnswer n (tabulateFrom (suc i) (m - suc i) rowAt) (tabulateFrom (suc i) (m - suc i) f) (suc i)) (refused 7 i)
+      ≡ cond (limits n (rowAt i) (f i)) (limitsAnswer n (drop (suc i) (tabulate m rowAt)) (drop (suc i) (tabulate m f)) (suc i)) (refused 7 i)
   unfolding limitsAnswer
   turn {i} c h = rw (tabulate-next m i rowAt h, tabulate-next m i f h) at (c .left)
 
@@ -132,16 +139,16 @@ module _ {n m : ℕ} {f : ℕ → Setting} where
 
   pub passed-end : {i : ℕ} → Passed n m f i → m ≤ i → answered n m f ≡ answer tt
   unfolding limitsAnswer
-  passed-end {i} c h = let none : m - i ≡ 0 = omega arith in rw none at (c .left)
+  passed-end {i} c h = rw (tabulate-past m i rowAt h) at (c .left)
 
 -- They are kept as well.
 pub record Checking (n m : ℕ) (f : ℕ → Setting) (of : List Setting) (i : ℕ) : Type 0 where
   pub passed : Passed n m f i
   pub long : length of ≡ m
-  pub kept : take i of ++ tabulateFrom i (m - i) f ≡ tabulateFrom 0 m f
+  pub kept : take i of ++ drop i (tabulate m f) ≡ tabulate m f
 
 pub start : {n m : ℕ} {f : ℕ → Setting} {of : List Setting} → length of ≡ m → Checking n m f of 0
-start {m = m} h = let e : m - 0 ≡ m = omega arith in record { passed = passed-start; long = h; kept = rw e }
+start h = record { passed = passed-start; long = h; kept = refl }
 
 pub next : {n m : ℕ} {f : ℕ → Setting} {of : List Setting} {i : ℕ} {r : Checked} {s : Setting} → Checking n m f of i → i < m
     → r ≡ checked n (rowAt i) (f i) → r ≡ Accepted s → Checking n m f (set of i s) (i + 1)
@@ -159,11 +166,10 @@ pub stop : {n m : ℕ} {f : ℕ → Setting} {of : List Setting} {i : ℕ} {r : 
 stop {n} {f = f} {i = i} c h e q = passed-stop (c .passed) h (beyond n (rowAt i) (f i) e q)
 
 pub end : {n m : ℕ} {f : ℕ → Setting} {of : List Setting} {i : ℕ} → Checking n m f of i → m ≤ i
-    → (answer tt ≡ answered n m f) × (of ≡ settingsIf (answered n m f) (tabulateFrom 0 m f))
+    → (answer tt ≡ answered n m f) × (of ≡ settingsIf (answered n m f) (tabulate m f))
 end {m = m} {f} {of} {i} c h =
-    let none : m - i ≡ 0 = omega arith in
     let e = passed-end (c .passed) h in
-    let k = rw (none, append-nil, take-all i of (omega (arith, c .long))) at (c .kept) in
+    let k = rw (tabulate-past m i f h, append-nil, take-all i of (omega (arith, c .long))) at (c .kept) in
     (sym e, rw e k)
 
 -- The length of an array in a struct, as it is handed.
@@ -174,17 +180,14 @@ long X Y g l n e = sym (length-map l g) ∙ e
 abbrev pub numbered : List Setting → ℕ → Setting
 numbered ss i = getD ss i off
 
-listed : (ss : List Setting) (i : ℕ) (f : ℕ → Setting) → ((j : ℕ) → f (i + j) ≡ getD ss j off) → tabulateFrom i (length ss) f ≡ ss
-listed [] i f e = refl
-listed (s ∷ ss) i f e =
-    let z : i ≡ i + 0 = omega arith in
-    ap₂ _∷_ (ap f z ∙ e 0) (listed ss (suc i) f (λ j. let q : suc i + j ≡ i + suc j = omega arith in ap f q ∙ e (suc j)))
+listed : (ss : List Setting) → tabulate (length ss) (numbered ss) ≡ ss
+listed [] = refl
+listed (s ∷ ss) = ap (λ (rest : List Setting). s ∷ rest) (listed ss)
 
 -- The check of a list of m settings is that of its settings by their numbers.
-pub listed-answer : (n m : ℕ) (ss : List Setting) → length ss ≡ m → answered n m (numbered ss) ≡ limitsAnswer n (tabulateFrom 0 m rowAt) ss 0
+pub listed-answer : (n m : ℕ) (ss : List Setting) → length ss ≡ m → answered n m (numbered ss) ≡ limitsAnswer n (tabulate m rowAt) ss 0
 listed-answer n m ss l =
-    ap (λ (xs : List Setting). limitsAnswer n (tabulateFrom 0 m rowAt) xs 0)
-    (ap (λ (k : ℕ). tabulateFrom 0 k (numbered ss)) (sym l) ∙ listed ss 0 (numbered ss) (λ j. let z : 0 + j ≡ j = omega arith in ap (numbered ss) z))
+    ap (λ (xs : List Setting). limitsAnswer n (tabulate m rowAt) xs 0) (ap (λ (k : ℕ). tabulate k (numbered ss)) (sym l) ∙ listed ss)
 
 -- Each rule of settings that pass is within its limits.
 pub rule-within : (n : ℕ) (rs : List Row) (ss : List Setting) (i : ℕ) → limitsAnswer n rs ss i ≡ answer tt
@@ -197,6 +200,6 @@ rule-within n (r′ ∷ rs) (s′ ∷ ss) i h (suc j) r s a b = rule-within n rs
 
 -- A refused rule set.
 pub refuses : {r : RuleSet} {why : Refusal} {a : Answer (Unit {0})} (ss : List Setting)
-    → (r .answer ≡ Refused why) × (r .settings .of ≡ tabulateFrom 0 16 (λ i. off)) → a ≡ refusal why
+    → (r .answer ≡ Refused why) × (r .settings .of ≡ tabulate 16 (λ i. off)) → a ≡ refusal why
     → (answerOfLimits (r .answer) ≡ a) × (r .settings .of ≡ settingsIf a ss)
 refuses ss (e, f) h = (rw (e, h), rw (f, h))

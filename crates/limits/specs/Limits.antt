@@ -6,6 +6,7 @@ use lib.IntN.{ℤ, pos, negsuc}
 use lib.Signed.{ltZ, leZ}
 use lib.Dec.{leb, eqb}
 use lib.ListN.{length}
+use Rattle.lists.specs.Lists.{tabulate}
 use Rattle.refusals.specs.Refusals.{Answer, answer, refused, refusal}
 use Rattle.bytes_le.specs.Numbers.{u16At, i32At}
 use Rattle.rules.specs.declared.Side.{Side}
@@ -40,14 +41,9 @@ abbrev pub settingAt : List ℕ → ℕ → Setting
 settingAt bytes i =
     record { threshold = i32At bytes (10 * i); recovery = i32At bytes (10 * i + 4); time = u16At bytes (10 * i + 8) }
 
--- The list of f i, f (i + 1), .. of k elements.
-abbrev pub tabulateFrom {ℓ} : {A : Type ℓ} → ℕ → ℕ → (ℕ → A) → List A
-tabulateFrom i zero f = []
-tabulateFrom i (suc k) f = f i ∷ tabulateFrom (suc i) k f
-
 -- The numbers of all sixteen rules.
 abbrev pub settingsOf : List ℕ → List Setting
-settingsOf bytes = tabulateFrom 0 16 (settingAt bytes)
+settingsOf bytes = tabulate 16 (settingAt bytes)
 
 -- Whether the settings of the rows from number i on are within their limits, or refusal 7 at the lowest rule that is not.
 unfoldable pub limitsAnswer : ℕ → List Row → List Setting → ℕ → Answer (Unit {0})
@@ -72,4 +68,4 @@ off = record { threshold = pos 0; recovery = pos 0; time = 0 }
 -- The settings that the check hands on: those of the bytes, or all off where it refuses.
 abbrev pub settingsIf : Answer (Unit {0}) → List Setting → List Setting
 settingsIf (answer done) ss = ss
-settingsIf (refused number place) ss = tabulateFrom 0 16 (λ i. off)
+settingsIf (refused number place) ss = tabulate 16 (λ i. off)

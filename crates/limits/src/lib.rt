@@ -2,8 +2,9 @@
 ghost use mathlib.Core.Path.{_≡_};
 ghost use mathlib.Core.Bool.{cond};
 ghost use Prim.Native.Nat.{_<_};
+ghost use Rattle.lists.specs.Lists.{tabulate};
 ghost use Rattle.rules.specs.Table.{rows, rowAt};
-ghost use Rattle.limits.specs.Limits.{limits, off, tabulateFrom, settingAt, settingsOf, settingsIf, limitsAnswer, answerOfLimits, ruleSetAnswer};
+ghost use Rattle.limits.specs.Limits.{limits, off, settingAt, settingsOf, settingsIf, limitsAnswer, answerOfLimits, ruleSetAnswer};
 
 mod rule;
 mod settings;
@@ -52,7 +53,7 @@ fn check_rule(cells: u8, bytes: &[u8], i: usize) -> Checked
 
 // A refused rule set, with every rule switched off.
 fn refuse(why: Refusal) -> RuleSet
-    ensures { λ r. ⌜ (r .answer ≡ Limited.Refused why) × (r .settings .of ≡ tabulateFrom 0 16 (λ i. off)) ⌝ }
+    ensures { λ r. ⌜ (r .answer ≡ Limited.Refused why) × (r .settings .of ≡ tabulate 16 (λ i. off)) ⌝ }
 {
     RuleSet {
         answer: Limited::Refused(why),

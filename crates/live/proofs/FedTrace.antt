@@ -8,10 +8,12 @@ use lib.Dec.{T}
 use lib.IntN.{ℤ}
 use lib.ListN.{length}
 use borrow.Author.Tests.{lt-ltb, le-ltb, eq-eqb}
+use Rattle.lists.specs.Lists.{tabulate, Every}
+use Rattle.lists.proofs.Bools.{is-true}
 use Rattle.refusals.specs.Refusals.{answer, andThen, orKept}
-use Rattle.rules.specs.Samples.{Sample, Every}
+use Rattle.rules.specs.Samples.{Sample}
 use Rattle.rules.proofs.CellCount.{in-range}
-use Rattle.limits.specs.Limits.{off, tabulateFrom, settingsOf}
+use Rattle.limits.specs.Limits.{off, settingsOf}
 use Rattle.bytes_le.specs.Numbers.{u16At, i16At}
 use Rattle.bytes_le.proofs.Spaced.{length-spaced}
 use Rattle.trace.specs.Records.{Hole, Stamped, stampedAt, samplesFrom, sampleWidth}
@@ -20,7 +22,6 @@ use Rattle.trace.specs.Sections.{rulesPart, samplesPart}
 use Rattle.trace.specs.Acceptance.{Parsed, acceptAnswer}
 use Rattle.fillings.specs.Fillings.{Config, seen, unseen}
 use Rattle.fillings.specs.Charge.{inward, outward, ofSeen, ofUnseen, total, unseenTicks}
-use Rattle.fillings.proofs.Bools.{is-true}
 use Rattle.flags.specs.declared.RuleFlags.{RuleFlags}
 use Rattle.flags.specs.Outputs.{outputOf, drivers, statusesOf}
 use Rattle.rules.specs.Table.{rows}
@@ -188,7 +189,7 @@ module _ (s : List ℕ) (w : Parsed) (h : acceptAnswer s ≡ answer w) where
 
   starts : beginState (w .layout .cells) (w .layout .idle) (rulesPart s) ≡ stateAt (tr .config) short (tr .samples) 0
   starts =
-      ap (λ a. orKept a (λ taken. begun (w .layout .cells) (w .layout .idle) (settingsOf (rulesPart s))) (begun 3 0 (tabulateFrom 0 16 (λ i. off)))) begun-as
+      ap (λ a. orKept a (λ taken. begun (w .layout .cells) (w .layout .idle) (settingsOf (rulesPart s))) (begun 3 0 (tabulate 16 (λ i. off)))) begun-as
       ∙ ap (begun (w .layout .cells) (w .layout .idle)) (sym settings)
       ∙ begins (tr .config) short (tr .samples)
 

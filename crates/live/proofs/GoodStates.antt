@@ -6,6 +6,7 @@ use native.Mathlib.Omega.{arith}
 use lib.Dec.{leb}
 use lib.ListN.{length, getD, List·getD-eq-default}
 use borrow.Author.Tests.{leb-true, le-leb}
+use Rattle.lists.proofs.Bools.{both-true, by-order}
 use Rattle.refusals.specs.Refusals.{Answer, answer, refused, passes}
 use Rattle.rules.specs.Samples.{cellCount}
 use Rattle.rules.specs.Table.{rows, rowAt}
@@ -14,8 +15,6 @@ use Rattle.limits.proofs.RuleSets.{time-small, rule-within}
 use Rattle.report.specs.declared.Totals.{Totals}
 use Rattle.states.specs.Validity.{validRecord}
 use Rattle.states.proofs.KeptValid.{Short}
-use Rattle.states.proofs.Bits.{below?}
-use Rattle.ticks.proofs.Tests.{and-true, by-order}
 use Rattle.live.specs.declared.Live.{Live}
 use Rattle.live.specs.State.{goodRules, goodTotals, good}
 
@@ -57,10 +56,10 @@ pub record GoodState (s : Live) : Type 0 where
 pub parts : (s : Live) → good s ≡ true → GoodState s
 unfolding good
 parts s g =
-    let (a, counts) = and-true (goodRules s && statesGood s) (goodTotals (s .totals)) g in
-    let (b, states) = and-true (goodRules s) (statesGood s) a in
-    let (h, rules) = and-true (headGood s) (rulesGood s) b in
-    let (cells, idle) = and-true (cellCount (s .cells)) (leb (s .idle) 32766) h in
+    let (a, counts) = both-true (goodRules s && statesGood s) (goodTotals (s .totals)) g in
+    let (b, states) = both-true (goodRules s) (statesGood s) a in
+    let (h, rules) = both-true (headGood s) (rulesGood s) b in
+    let (cells, idle) = both-true (cellCount (s .cells)) (leb (s .idle) 32766) h in
     record { cells = cells; idle = idle; rules = rules; states = states; counts = counts }
 
 pub whole : (s : Live) → GoodState s → good s ≡ true
@@ -74,8 +73,8 @@ pub record Counted (t : Totals) : Type 0 where
 
 pub counted : (t : Totals) → goodTotals t ≡ true → Counted t
 counted t g =
-    let (a, c) = and-true (leb (t .«charge_in») (32768 * t .ticks) && leb (t .«charge_out») (32768 * t .ticks)) (leb (t .unseen) (t .ticks)) g in
-    let (i, o) = and-true (leb (t .«charge_in») (32768 * t .ticks)) (leb (t .«charge_out») (32768 * t .ticks)) a in
+    let (a, c) = both-true (leb (t .«charge_in») (32768 * t .ticks) && leb (t .«charge_out») (32768 * t .ticks)) (leb (t .unseen) (t .ticks)) g in
+    let (i, o) = both-true (leb (t .«charge_in») (32768 * t .ticks)) (leb (t .«charge_out») (32768 * t .ticks)) a in
     record { inwards = leb-true _ _ i; outwards = leb-true _ _ o; unseen = leb-true _ _ c }
 
 pub counts : (t : Totals) → Counted t → goodTotals t ≡ true

@@ -7,17 +7,17 @@ use native.Mathlib.Omega.{arith}
 use lib.Dec.{T, leb, eqb}
 use lib.ListN.{length}
 use borrow.Author.Tests.{leb-true}
+use Rattle.lists.specs.Lists.{tabulate}
+use Rattle.lists.proofs.Bools.{is-true, both-true}
 use Rattle.refusals.specs.Refusals.{Answer, answer, refused, orKept, passes}
 use Rattle.rules.specs.Table.{rows}
 use Rattle.rules.specs.Samples.{Sample, I16, cellCount, readingsOf}
-use Rattle.limits.specs.Limits.{off, tabulateFrom, settingsOf, limits, limitsAnswer}
+use Rattle.limits.specs.Limits.{off, settingsOf, limits, limitsAnswer}
 use Rattle.refusals.proofs.Answers.{where-true}
-use Rattle.fillings.proofs.Bools.{is-true}
 use Rattle.states.specs.Validity.{validRecord}
 use Rattle.states.proofs.KeptValid.{fresh-valid, seen-valid, unseen-valid}
 use Rattle.report.specs.declared.Totals.{Totals}
 use Rattle.demands.proofs.TotalBounds.{in-most, out-most}
-use Rattle.ticks.proofs.Tests.{and-true}
 use Rattle.live.specs.declared.Live.{Live}
 use Rattle.live.specs.State.{good, begun, withSample, withHole}
 use Rattle.live.specs.Calls.{beginAnswer, sampleAnswer, holeAnswer}
@@ -47,11 +47,11 @@ begun-good n idle bytes h =
     })
 
 -- The state of a refused beginning.
-off-good : T (good (begun 3 0 (tabulateFrom 0 16 (λ i. off))))
+off-good : T (good (begun 3 0 (tabulate 16 (λ i. off))))
 unfolding limitsAnswer limits
 off-good =
-    holds (begun 3 0 (tabulateFrom 0 16 (λ i. off)))
-    (record { cells = refl; idle = refl; rules = refl; states = is-true _ (fresh-valid (tabulateFrom 0 16 (λ i. off))); counts = refl })
+    holds (begun 3 0 (tabulate 16 (λ i. off)))
+    (record { cells = refl; idle = refl; rules = refl; states = is-true _ (fresh-valid (tabulate 16 (λ i. off))); counts = refl })
 
 totals-of : (s : Live) → GoodState s → (s .totals .«charge_in» ≤ 32768 * s .totals .ticks) × (s .totals .«charge_out» ≤ 32768 * s .totals .ticks) × (s .totals .unseen ≤ s .totals .ticks)
 totals-of s g = let c = counted (s .totals) (g .counts) in (c .inwards, c .outwards, c .unseen)
@@ -90,15 +90,15 @@ unfolding holeAnswer
 hole-forward s last h =
     let a = where-true (good s) 16 0 _ h in
     let b = where-true (leb (s .totals .ticks) last && _) 8 (s .totals .ticks) _ (a .1) in
-    leb-true (s .totals .ticks) last (and-true (leb (s .totals .ticks) last) _ (b .0) .0)
+    leb-true (s .totals .ticks) last (both-true (leb (s .totals .ticks) last) _ (b .0) .0)
 
 pub stays-good : StaysGood
 stays-good = record { begins = begins; sees = sees; misses = misses }
   where
-    begins : (n idle : ℕ) (bytes : List ℕ) → T (good (orKept (beginAnswer n idle bytes) (λ taken. begun n idle (settingsOf bytes)) (begun 3 0 (tabulateFrom 0 16 (λ i. off)))))
+    begins : (n idle : ℕ) (bytes : List ℕ) → T (good (orKept (beginAnswer n idle bytes) (λ taken. begun n idle (settingsOf bytes)) (begun 3 0 (tabulate 16 (λ i. off)))))
     begins n idle bytes = go (beginAnswer n idle bytes) refl
       where
-        go : (a : Answer (Unit {0})) → beginAnswer n idle bytes ≡ a → T (good (orKept a (λ taken. begun n idle (settingsOf bytes)) (begun 3 0 (tabulateFrom 0 16 (λ i. off)))))
+        go : (a : Answer (Unit {0})) → beginAnswer n idle bytes ≡ a → T (good (orKept a (λ taken. begun n idle (settingsOf bytes)) (begun 3 0 (tabulate 16 (λ i. off)))))
         go (answer tt) e = begun-good n idle bytes e
         go (refused k p) e = off-good
 

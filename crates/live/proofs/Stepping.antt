@@ -8,12 +8,13 @@ use lib.Dec.{leb, ltb, eqb}
 use lib.IntN.{ℤ}
 use lib.ListN.{length}
 use borrow.Author.Tests.{le-leb, lt-leb, lt-ltb, le-ltb, eq-eqb, ne-eqb}
+use Rattle.lists.specs.Lists.{tabulate}
 use Rattle.refusals.specs.declared.Refusal.{Refusal}
 use Rattle.refusals.specs.Refusals.{Answer, answer, refused, refusal, orKept}
 use Rattle.rules.specs.declared.Settings.{Settings}
 use Rattle.rules.specs.declared.Readings.{Readings}
 use Rattle.rules.specs.Samples.{Sample, cellCount, readingsOf}
-use Rattle.limits.specs.Limits.{off, tabulateFrom, settingsOf, settingsIf, ruleSetAnswer}
+use Rattle.limits.specs.Limits.{off, settingsOf, settingsIf, ruleSetAnswer}
 use Rattle.samples.specs.Answers.{readAnswer}
 use Rattle.fillings.specs.Charge.{inward, outward}
 use Rattle.report.specs.declared.Totals.{Totals}
@@ -60,7 +61,7 @@ begun-is n idle ss st e =
 
 module _ (n idle : ℕ) (bytes : List ℕ) where
   -- a refused beginning, and one that is taken
-  pub begin-refused : {r : Step} {why : Refusal} → r ≡ record { answer = Refused why; state = begun 3 0 (tabulateFrom 0 16 (λ i. off)) } → beginAnswer n idle bytes ≡ refusal why
+  pub begin-refused : {r : Step} {why : Refusal} → r ≡ record { answer = Refused why; state = begun 3 0 (tabulate 16 (λ i. off)) } → beginAnswer n idle bytes ≡ refusal why
       → (answerOfFed (r .answer) ≡ beginAnswer n idle bytes) × (r .state ≡ beginState n idle bytes)
   begin-refused e h = (rw (e, h), rw (e, h))
 

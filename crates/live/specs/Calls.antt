@@ -4,16 +4,16 @@ use mathlib.Core.Bool.{cond, _&&_}
 use mathlib.Core.List.{List}
 use lib.Dec.{ltb, leb, eqb}
 use lib.ListN.{length}
+use Rattle.lists.specs.Lists.{tabulate}
 use Rattle.refusals.specs.Refusals.{Answer, answer, refused, refusal, orKept}
 use Rattle.rules.specs.Table.{rows}
 use Rattle.rules.specs.Samples.{Sample, cellCount}
-use Rattle.limits.specs.Limits.{limitsAnswer, settingsOf, tabulateFrom, off}
+use Rattle.limits.specs.Limits.{limitsAnswer, settingsOf, off}
 use Rattle.flags.specs.declared.Flag.{Flag}
 use Rattle.flags.specs.declared.Flag.the-variants.{Unknown}
 use Rattle.flags.specs.declared.RuleFlags.{RuleFlags}
 use Rattle.flags.specs.declared.Output.{Output}
 use Rattle.flags.specs.Outputs.{outputOf, drivers, statusesOf}
-use Rattle.fillings.specs.PossibleStates.{tabulate}
 use Rattle.report.specs.declared.Totals.{Totals}
 use Rattle.states.specs.Readings.{allFlags}
 use Rattle.totals.specs.Totals.{Bounds, boundsFrom}
@@ -40,7 +40,7 @@ beginAnswer n idle bytes =
 
 -- The state that it answers: refused, that begun from n = 3, idle 0 and all rules zero.
 abbrev pub beginState : ℕ → ℕ → List ℕ → Live
-beginState n idle bytes = orKept (beginAnswer n idle bytes) (λ taken. begun n idle (settingsOf bytes)) (begun 3 0 (tabulateFrom 0 16 (λ i. off)))
+beginState n idle bytes = orKept (beginAnswer n idle bytes) (λ taken. begun n idle (settingsOf bytes)) (begun 3 0 (tabulate 16 (λ i. off)))
 
 -- A sample: 16, then 15 for lists that are not n long, then 9 at the expected tick for any other tick, and for FFFFFFFFh.
 unfoldable pub sampleAnswer : Live → ℕ → Sample → Answer (Unit {0})

@@ -1,6 +1,7 @@
 // The state at the beginning.
 ghost use mathlib.Core.Path.{_≡_};
-ghost use Rattle.limits.specs.Limits.{tabulateFrom, off};
+ghost use Rattle.lists.specs.Lists.{tabulate};
+ghost use Rattle.limits.specs.Limits.{off};
 ghost use Rattle.live.specs.State.{begun};
 use crate::Fed;
 use crate::Live;
@@ -32,7 +33,7 @@ pub(crate) fn begun(cells: u8, idle: u16, settings: Settings) -> Live
 
 // A refused beginning: three cells, idle 0, every rule switched off.
 pub(crate) fn refuse_begin(why: Refusal) -> Step
-    ensures { λ r. ⌜ r ≡ record { answer = Fed.Refused why; state = begun 3 0 (tabulateFrom 0 16 (λ i. off)) } ⌝ }
+    ensures { λ r. ⌜ r ≡ record { answer = Fed.Refused why; state = begun 3 0 (tabulate 16 (λ i. off)) } ⌝ }
 {
     let settings = Settings {
         of: [Setting {

@@ -3,20 +3,14 @@ use Prim.Native.Nat.{ℕ, zero, suc, _+_, _-_, _*_, _/_, _%_, _^_, _<_, _≤_}
 use mathlib.Core.Path.{_≡_, refl, sym, ap, ap₂, _∙_, subst}
 use mathlib.Core.Bool.{Bool, true, false, cond}
 use mathlib.Core.List.{List, [], _∷_, _++_, append-assoc, append-nil}
-use mathlib.Core.Logic.{_⊎_, inl, inr, ⊎-elim}
+use mathlib.Core.Logic.{⊎-elim}
 use native.Mathlib.Omega.{arith}
 use lib.Dec.{T, ltb, eqb}
 use lib.Bits.{bitXor, xor-lt, xor-block, xor-comm, xor-shifted, xor-zero-l, xor-zero-r}
-use borrow.Author.Tests.{lt-ltb, le-ltb, ltb-true, ltb-false}
+use borrow.Author.Tests.{lt-ltb, le-ltb}
+use Rattle.lists.proofs.Bools.{below?}
 use Rattle.pec.specs.Code.{generator, shifted, withBit, withBits, bitsOf, bitsOfBytes, pecOf}
 use Rattle.pec.proofs.Xor.{xor-assoc}
-
-lt-or-le : (a b : ℕ) → (a < b) ⊎ (b ≤ a)
-lt-or-le a b = go (ltb a b) refl
-  where
-    go : (t : Bool) → ltb a b ≡ t → (a < b) ⊎ (b ≤ a)
-    go true e = inl (ltb-true a b e)
-    go false e = inr (ltb-false a b e)
 
 low : (x : ℕ) → x < 128 → shifted x ≡ x * 2
 unfolding shifted
@@ -40,7 +34,7 @@ topped x y h g =
     ap₂ bitXor (sym e) (sym f) ∙ xor-block 7 1 0 x y h g
 
 shifted-xor : (x w : ℕ) → x < 256 → w < 128 → shifted (bitXor x w) ≡ bitXor (shifted x) (w * 2)
-shifted-xor x w h g = ⊎-elim below above (lt-or-le x 128)
+shifted-xor x w h g = ⊎-elim below above (below? x 128)
   where
     below : x < 128 → shifted (bitXor x w) ≡ bitXor (shifted x) (w * 2)
     below l =
@@ -66,7 +60,7 @@ shifted-fits x h =
     ⊎-elim
     (λ l. rw (low x l) (omega arith))
     (λ l. rw (high x l) (xor-lt 8 (x * 2 - 256) generator (omega arith) (omega arith)))
-    (lt-or-le x 128)
+    (below? x 128)
 
 bit-fits : (b : Bool) → cond b 128 0 < 256
 bit-fits true = omega arith

@@ -9,15 +9,15 @@ use lib.Dec.{T, eqb}
 use lib.ListN.{getD, length, List·getD-eq-default}
 use lib.Seq.{ext-getD}
 use borrow.Author.Tests.{eq-eqb, ne-eqb}
+use Rattle.lists.specs.Lists.{tabulate}
+use Rattle.lists.proofs.Bools.{refuted, bool-ext, below?, equal?, length-tabulate, getD-tabulate}
 use Rattle.rules.specs.Evaluation.{status}
 use Rattle.flags.specs.declared.Flag.the-variants.{Clear}
-use Rattle.fillings.specs.PossibleStates.{tabulate, has, Moves, found, next, start}
+use Rattle.fillings.specs.PossibleStates.{has, Moves, found, next, start}
 use Rattle.fillings.specs.Flags.{flag}
-use Rattle.fillings.proofs.Bools.{bool-ext, refuted, has-tabulate, length-tabulate}
 use Rattle.fillings.proofs.Next.{next-length, reached, by-restart}
 use Rattle.states.specs.Records.{at, statesOf, wordOf, wordsOf, ruleWords, recordWith}
 use Rattle.states.specs.Words.{Same}
-use Rattle.states.proofs.Bits.{below?, equal?}
 use Rattle.states.proofs.Packing.{at-wordsOf, states-words, same-sets}
 use Rattle.states.proofs.SetFlags.{status-clear}
 use Rattle.states.proofs.RuleWords.{record-length, record-at}
@@ -32,7 +32,7 @@ zero-words w r s e = s .yes e
 pub has-start : (m s : ℕ) → has (start m) s ≡ has (start 0) s
 has-start m zero = refl
 has-start m (suc s) =
-    ⊎-elim (λ h. has-tabulate m (λ i. eqb (suc i) 0) s h ∙ ne-eqb (suc s) 0 (λ e. omega arith))
+    ⊎-elim (λ h. getD-tabulate m (λ i. eqb (suc i) 0) false s h ∙ ne-eqb (suc s) 0 (λ e. omega arith))
     (λ h. List·getD-eq-default (tabulate m (λ i. eqb (suc i) 0)) false {n = s} (omega (arith, length-tabulate m (λ i. eqb (suc i) 0))))
     (below? s m)
 

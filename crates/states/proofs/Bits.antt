@@ -2,14 +2,14 @@
 use Prim.Native.Nat.{ℕ, zero, suc, _+_, _*_, _^_, _-_, _/_, _%_, _≤_, _<_}
 use mathlib.Core.Path.{_≡_, refl, ap, ap₂, sym, _∙_}
 use mathlib.Core.Bool.{Bool, true, false, _||_}
-use mathlib.Core.Logic.{_⊎_, inl, inr, ⊎-elim}
+use mathlib.Core.Logic.{⊎-elim}
 use native.Mathlib.Omega.{arith}
 use native.Mathlib.Nat.{div-eq-of-lt, mod-lt, one-mul, pow-suc, eq-or-lt-of-le, div-eq-of-lt-le, lt-of-lt-of-le, le-of-eq, le-of-lt, mod-eq-of-lt, mul-assoc}
 use native.Mathlib.Numerals.{add-one}
-use lib.Dec.{eqb, ltb}
+use lib.Dec.{eqb}
 use lib.Pow.{shr-shr, field, mod-mod-pow, pow-pos, pow-add, pow-lt, shl-shr}
 use lib.Bits.{bitOr, or-shr, or-mod}
-use borrow.Author.Tests.{ltb-true, ltb-false, eqb-true, eqb-false}
+use Rattle.lists.proofs.Bools.{below?}
 use Rattle.states.specs.Records.{bit}
 
 -- below bit k, the part of a number below 2 ^ k has the number's bits
@@ -73,21 +73,6 @@ bit-pow-below k r h =
     let q : 2 ^ k / 2 ^ r ≡ 2 ^ d * 2 = ap (λ (x : ℕ). x / 2 ^ r) (ap (λ (x : ℕ). 2 ^ x) e ∙ pow-add 2 (suc d) r) ∙ shl-shr (2 ^ suc d) r ∙ pow-suc 2 d in
     let z : 2 ^ k / 2 ^ r % 2 ≡ 0 = omega arith in
     ap (λ (x : ℕ). eqb x 1) z
-
--- which of two numbers is below
-pub below? : (a b : ℕ) → (a < b) ⊎ (b ≤ a)
-below? a b = go (ltb a b) refl
-  where
-    go : (t : Bool) → ltb a b ≡ t → (a < b) ⊎ (b ≤ a)
-    go true e = inl (ltb-true a b e)
-    go false e = inr (ltb-false a b e)
-
-pub equal? : (a b : ℕ) → (a ≡ b) ⊎ (a ≡ b → ⊥)
-equal? a b = go (eqb a b) refl
-  where
-    go : (t : Bool) → eqb a b ≡ t → (a ≡ b) ⊎ (a ≡ b → ⊥)
-    go true e = inl (eqb-true a b e)
-    go false e = inr (eqb-false a b e)
 
 pub bit-pow-other : (k r : ℕ) → (r ≡ k → ⊥) → bit (2 ^ k) r ≡ false
 bit-pow-other k r n =

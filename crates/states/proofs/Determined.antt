@@ -8,18 +8,18 @@ use native.Mathlib.Omega.{arith}
 use lib.Dec.{T, eqb, eqb→eq}
 use lib.ListN.{getD, length, drop, length-take, List·getD-eq-default}
 use lib.Seq.{ext-getD}
+use Rattle.lists.specs.Lists.{someBelow}
+use Rattle.lists.proofs.Bools.{and-left, and-right, is-false, below?, every-elim, getD-tabulate}
 use Rattle.rules.specs.declared.Setting.{Setting}
 use Rattle.rules.specs.Evaluation.{top}
-use Rattle.fillings.specs.PossibleStates.{someBelow, has}
-use Rattle.fillings.proofs.Bools.{and-left, and-right, is-false, has-tabulate}
+use Rattle.fillings.specs.PossibleStates.{has}
 use Rattle.states.specs.Records.{at, Fit64, statesOf, ruleWords}
 use Rattle.states.specs.Steps.{settingOf, setOf}
-use Rattle.states.specs.Validity.{everyBelow, validSet, validRecord}
+use Rattle.states.specs.Validity.{validSet, validRecord}
 use Rattle.states.specs.Tracking.{Determined}
-use Rattle.states.proofs.Bits.{below?}
 use Rattle.states.proofs.Packing.{same-words}
 use Rattle.states.proofs.RuleWords.{part, part-length}
-use Rattle.states.proofs.ValidWords.{above, none-at, every-elim}
+use Rattle.states.proofs.ValidWords.{above, none-at}
 
 -- A valid record is eighty words long, and its sets are valid.
 long : (ss : List Setting) (ws : List ℕ) → T (validRecord ss ws) → length ws ≡ 80
@@ -44,7 +44,7 @@ same-at : (m : ℕ) (a b : List ℕ) → statesOf a m ≡ statesOf b m → someB
 unfolding statesOf
 same-at m a b e na nb p h =
     ⊎-elim
-    (λ l. sym (has-tabulate (suc m) (at a) p l) ∙ ap (λ (q : List Bool). has q p) e ∙ has-tabulate (suc m) (at b) p l)
+    (λ l. sym (getD-tabulate (suc m) (at a) false p l) ∙ ap (λ (q : List Bool). has q p) e ∙ getD-tabulate (suc m) (at b) false p l)
     (λ l. none-at m a p na (omega arith) h ∙ sym (none-at m b p nb (omega arith) h))
     (below? p (suc m))
 

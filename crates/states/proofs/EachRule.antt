@@ -11,12 +11,12 @@ use lib.Dec.{eqb, ltb}
 use lib.ListN.{getD, length, take, drop}
 use lib.Seq.{getD-take, getD-drop, ext-getD}
 use borrow.Author.Tests.{eq-eqb, ne-eqb, lt-ltb, le-ltb}
+use Rattle.lists.proofs.Bools.{below?, equal?}
 use Rattle.rules.specs.Evaluation.{status}
 use Rattle.flags.specs.declared.Flag.{Flag}
 use Rattle.fillings.specs.Flags.{flag}
 use Rattle.fillings.specs.PossibleStates.{Moves, next}
 use Rattle.states.specs.Records.{statesOf, wordsOf, ruleWords, recordWith}
-use Rattle.states.proofs.Bits.{below?, equal?}
 use Rattle.states.proofs.RuleWords.{part-length, record-length, record-at}
 
 -- Two records are the same if they change alike where they are compared.

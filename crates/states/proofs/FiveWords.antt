@@ -13,11 +13,11 @@ use borrow.Author.Tests.{lt-ltb, le-ltb, eq-eqb, ne-eqb, eqb-true, eqb-false}
 use borrow.Author.Count.{below-more}
 use lib.Seq.{getD-set-same, getD-set-other}
 use lib.Bits.{bitOr}
-use Rattle.fillings.specs.PossibleStates.{someBelow}
-use Rattle.fillings.proofs.Bools.{is-true, refuted, some-intro, some-elim}
+use Rattle.lists.specs.Lists.{someBelow}
+use Rattle.lists.proofs.Bools.{is-true, refuted, below?, equal?, some-intro, some-elim}
 use Rattle.states.specs.Records.{bit, at}
 use Rattle.states.specs.Words.{belowWord, Below, Up, Raised, With, withWord}
-use Rattle.states.proofs.Bits.{bit-mod, bit-mod-above, bit-up, bit-up-first, bit-or, bit-pow-same, bit-pow-other, bit-some, bit-zero, below?, equal?}
+use Rattle.states.proofs.Bits.{bit-mod, bit-mod-above, bit-up, bit-up-first, bit-or, bit-pow-same, bit-pow-other, bit-some, bit-zero}
 
 -- word j of the words w a place up
 abbrev pub upWord : List ℕ → ℕ → ℕ

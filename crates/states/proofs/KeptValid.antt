@@ -9,22 +9,23 @@ use native.Mathlib.Nat.{eq-or-lt-of-le}
 use lib.Dec.{T, eqb, eqb→eq}
 use lib.ListN.{length, List·getD-eq-default}
 use borrow.Author.Tests.{eq-eqb}
+use Rattle.lists.specs.Lists.{someBelow, everyBelow}
+use Rattle.lists.proofs.Bools.{and-left, and-right, both, or-elim, some-intro, some-elim, every-intro, every-elim, length-tabulate}
 use Rattle.rules.specs.declared.Setting.{Setting}
 use Rattle.rules.specs.declared.Readings.{Readings}
 use Rattle.rules.specs.Table.{rowAt}
 use Rattle.rules.specs.Evaluation.{trips, clears, top}
-use Rattle.fillings.specs.PossibleStates.{someBelow, has, Moves, found, anything, next, start, unseenTimes}
-use Rattle.fillings.proofs.Bools.{and-left, and-right, both, is-true, or-elim, some-intro, some-elim, length-tabulate}
+use Rattle.fillings.specs.PossibleStates.{has, Moves, found, anything, next, start, unseenTimes}
 use Rattle.fillings.proofs.Next.{next-length, by-up, by-restart, by-leave, by-stay}
 use Rattle.states.specs.Records.{at, statesOf, wordsOf, ruleWords, recordWith, fresh}
 use Rattle.states.specs.Steps.{settingOf, setOf, movesAt, seenWords, afterSeen, evaluationsOf, movesBetween, unseenWords, afterUnseen}
-use Rattle.states.specs.Validity.{everyBelow, validSet, validRecord}
+use Rattle.states.specs.Validity.{validSet, validRecord}
 use Rattle.states.proofs.Packing.{wordsOf-length, at-wordsOf}
 use Rattle.states.proofs.Moving.{has-states}
 use Rattle.states.proofs.RuleWords.{record-length}
 use Rattle.states.proofs.EachRule.{rule-kept, rule-new}
 use Rattle.states.proofs.Tops.{top-fits}
-use Rattle.states.proofs.ValidWords.{above, validWords, valid-of, every-intro, every-elim}
+use Rattle.states.proofs.ValidWords.{above, validWords, valid-of}
 
 -- The words of a set in which some state is.
 set-valid : (m : ℕ) (p : List Bool) → m ≤ 256 → length p ≡ suc m → T (someBelow (suc m) (has p)) → T (validWords m (wordsOf p))

@@ -9,14 +9,14 @@ use native.Mathlib.Nat.{eq-or-lt-of-le}
 use lib.Dec.{T, eqb}
 use lib.ListN.{length, replicate, List·getD-eq-default}
 use borrow.Author.Tests.{lt-ltb, le-ltb, eq-eqb, ne-eqb}
-use Rattle.fillings.specs.PossibleStates.{someBelow, has, anything, next, unseenTimes}
-use Rattle.fillings.proofs.Bools.{or-left, or-right, or-elim, is-false, refuted, some-intro, some-elim, bool-ext, length-tabulate}
+use Rattle.lists.specs.Lists.{someBelow}
+use Rattle.lists.proofs.Bools.{or-left, or-right, or-elim, is-false, refuted, bool-ext, both-false, below?, some-intro, some-elim, length-tabulate}
+use Rattle.fillings.specs.PossibleStates.{has, anything, next, unseenTimes}
 use Rattle.fillings.proofs.Next.{next-length}
 use Rattle.fillings.proofs.Still.{still}
 use Rattle.fillings.proofs.UnseenStates.{below-top, counted-up, top-within, first-states, unmoved-times}
 use Rattle.states.specs.Records.{at, Fit64, statesOf, wordsOf}
 use Rattle.states.specs.Words.{Below, With, Same, Filled}
-use Rattle.states.proofs.Bits.{below?}
 use Rattle.states.proofs.FiveWords.{at-none}
 use Rattle.states.proofs.Packing.{same-words, wordsOf-length, wordsOf-fit, at-wordsOf}
 use Rattle.states.proofs.Moving.{has-states, some-states}
@@ -24,10 +24,6 @@ use Rattle.states.proofs.Moving.{has-states, some-states}
 states-length : (w : List ℕ) (m : ℕ) → length (statesOf w m) ≡ suc m
 unfolding statesOf
 states-length w m = length-tabulate (suc m) (at w)
-
-or-none : (a b : Bool) → (a || b) ≡ false → a ≡ false
-or-none false b e = refl
-or-none true b e = e
 
 pub one-unseen : (w v : List ℕ) (m n : ℕ) (recovers : Bool) → n ≡ 1 → v ≡ wordsOf (next m (anything recovers) (statesOf w m))
     → v ≡ wordsOf (unseenTimes n m recovers (statesOf w m))
@@ -73,7 +69,7 @@ module _ (w : List ℕ) (m : ℕ) (recovers : Bool) (pos : 0 < m) (fits : m ≤ 
       → (some || recovers && held) ≡ false → With (replicate 5 0) m held r → length r ≡ 5 → Fit64 r → r ≡ wordsOf (unseenTimes n m recovers P)
   none-moves low r n some held lo so he e wi l f =
       let d : (someBelow m (has P) || recovers && has P m) ≡ false = sym (falls low some held lo so he) ∙ e in
-      words-of-set P r l f (unmoved-bits r held wi he (or-none (someBelow m (has P)) (recovers && has P m) d))
+      words-of-set P r l f (unmoved-bits r held wi he (both-false (someBelow m (has P)) (recovers && has P m) d .0))
       ∙ ap wordsOf (sym (unmoved-times m recovers P (states-length w m) d n))
 
   -- k evaluations of a set from which 0 can be reached

@@ -10,17 +10,17 @@ use native.Mathlib.Numerals.{add-one}
 use lib.Dec.{T, ltb, eqb, ltb→lt, lt→ltb}
 use lib.ListN.{length, List·getD-eq-default}
 use borrow.Author.Tests.{lt-ltb, le-ltb, eq-eqb, ne-eqb}
-use Rattle.fillings.specs.PossibleStates.{someBelow, has, Moves, next}
-use Rattle.fillings.proofs.Bools.{and-left, and-right, both, some-intro, some-elim, has-tabulate, bool-ext}
+use Rattle.lists.specs.Lists.{someBelow}
+use Rattle.lists.proofs.Bools.{and-left, and-right, both, bool-ext, below?, some-intro, some-elim, getD-tabulate}
+use Rattle.fillings.specs.PossibleStates.{has, Moves, next}
 use Rattle.fillings.proofs.Next.{next-length, next-zero, next-between, next-top}
 use Rattle.states.specs.Records.{at, Fit64, statesOf, wordsOf}
 use Rattle.states.specs.Words.{Below, Raised, With}
-use Rattle.states.proofs.Bits.{below?}
 use Rattle.states.proofs.Packing.{same-words, wordsOf-length, wordsOf-fit, at-wordsOf}
 
 pub has-states : (w : List ℕ) (m s : ℕ) → s ≤ m → has (statesOf w m) s ≡ at w s
 unfolding statesOf
-has-states w m s h = has-tabulate (suc m) (at w) s (omega arith)
+has-states w m s h = getD-tabulate (suc m) (at w) false s (omega arith)
 
 pub some-states : (w low : List ℕ) (m : ℕ) → m < 320 → Below w m low → someBelow 320 (at low) ≡ someBelow m (has (statesOf w m))
 some-states w low m lm lo =

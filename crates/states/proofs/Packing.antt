@@ -11,10 +11,11 @@ use lib.Dec.{T, eqb, ltb}
 use lib.ListN.{getD, length, take, drop, length-take, List·getD-eq-default}
 use lib.Seq.{getD-take, getD-drop, ext-getD}
 use borrow.Author.Tests.{eqb-true, eqb-false}
-use Rattle.fillings.specs.PossibleStates.{tabulate, someBelow, has}
-use Rattle.fillings.proofs.Bools.{has-tabulate, length-tabulate}
+use Rattle.lists.specs.Lists.{tabulate}
+use Rattle.lists.proofs.Bools.{below?, length-tabulate, getD-tabulate}
+use Rattle.fillings.specs.PossibleStates.{has}
 use Rattle.states.specs.Records.{bit, at, Fit64, statesOf, wordOf, wordsOf}
-use Rattle.states.proofs.Bits.{bit-double, bit-zero, below?}
+use Rattle.states.proofs.Bits.{bit-double, bit-zero}
 
 digit : (b : Bool) → cond b 1 0 < 2
 digit true = omega arith
@@ -119,7 +120,7 @@ states-words p m l h =
     ext-getD false (tabulate (suc m) (at (wordsOf p))) p (length-tabulate (suc m) (at (wordsOf p)) ∙ sym l)
     (λ s g.
     let g′ : s < suc m = omega (arith, length-tabulate (suc m) (at (wordsOf p))) in
-    has-tabulate (suc m) (at (wordsOf p)) s g′ ∙ at-wordsOf p s (omega arith))
+    getD-tabulate (suc m) (at (wordsOf p)) false s g′ ∙ at-wordsOf p s (omega arith))
 
 -- Sets with the same states have the same words.
 pub same-sets : (p q : List Bool) → ((s : ℕ) → has p s ≡ has q s) → wordsOf p ≡ wordsOf q

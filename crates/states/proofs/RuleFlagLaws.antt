@@ -10,19 +10,18 @@ use lib.ListN.{getD, length, set, length-set}
 use lib.Seq.{getD-set-same, getD-set-other, ext-getD}
 use borrow.Author.Count.{below-more}
 use borrow.Author.Tests.{eq-eqb, ne-eqb}
+use Rattle.lists.specs.Lists.{tabulate}
+use Rattle.lists.proofs.Bools.{length-tabulate, getD-tabulate}
 use Rattle.rules.specs.declared.Setting.{Setting}
 use Rattle.rules.specs.Table.{rowAt}
 use Rattle.rules.specs.Evaluation.{top, alert, status}
 use Rattle.flags.specs.declared.Flag.{Flag}
 use Rattle.flags.specs.declared.Flag.the-variants.{Unknown}
 use Rattle.flags.specs.declared.RuleFlags.{RuleFlags}
-use Rattle.fillings.specs.PossibleStates.{tabulate}
 use Rattle.fillings.specs.Flags.{flag, flagsOf}
-use Rattle.fillings.proofs.Bools.{length-tabulate}
 use Rattle.states.specs.Records.{statesOf, ruleWords}
 use Rattle.states.specs.Steps.{settingOf, setOf}
 use Rattle.states.specs.Readings.{allFlags}
-use Rattle.states.proofs.RuleWords.{getD-tabulate}
 
 pub flags-read : (t i : ℕ) (ws w : List ℕ) (a s : Flag) {m : ℕ} → m ≡ top t → w ≡ ruleWords ws i → a ≡ flag m alert (statesOf w m) → s ≡ flag m (status m) (statesOf w m)
     → record { alert = a; status = s } ≡ flagsOf (rowAt i) (top t) (statesOf (ruleWords ws i) (top t))

@@ -11,15 +11,8 @@ use lib.ListN.{getD, length, set, take, drop, length-set, length-take, length-dr
 use lib.Seq.{getD-take, getD-drop, getD-set-same, getD-set-other, ext-getD}
 use borrow.Author.Tests.{eq-eqb, ne-eqb}
 use borrow.Author.Count.{below-more}
-use Rattle.fillings.specs.PossibleStates.{tabulate}
-use Rattle.fillings.proofs.Bools.{length-tabulate}
+use Rattle.lists.proofs.Bools.{equal?, length-tabulate, getD-tabulate}
 use Rattle.states.specs.Records.{ruleWords, recordWith}
-use Rattle.states.proofs.Bits.{below?, equal?}
-
-pub getD-tabulate {ℓ} : {A : Type ℓ} (n : ℕ) (f : ℕ → A) (d : A) (i : ℕ) → i < n → getD (tabulate n f) i d ≡ f i
-getD-tabulate zero f d i h = absurd (omega arith)
-getD-tabulate (suc n) f d zero h = refl
-getD-tabulate (suc n) f d (suc i) h = getD-tabulate n (λ j. f (suc j)) d i (omega arith)
 
 pub part : (ws : List ℕ) (k j : ℕ) → j < 5 → getD (take 5 (drop k ws)) j 0 ≡ getD ws (k + j) 0
 part ws k j h = getD-take 5 (drop k ws) j 0 h ∙ getD-drop k ws j 0

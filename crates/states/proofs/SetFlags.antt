@@ -11,16 +11,17 @@ use lib.Dec.{T, ltb, eqb, eqb→eq, eqb-refl, ltb→lt, lt→ltb}
 use lib.ListN.{getD, length, set}
 use lib.Seq.{getD-set-same, getD-set-other}
 use borrow.Author.Tests.{lt-ltb, le-ltb, eq-eqb, ne-eqb}
+use Rattle.lists.specs.Lists.{someBelow}
+use Rattle.lists.proofs.Bools.{and-left, and-right, both, refuted, bool-ext, equal?, some-intro, some-elim}
 use Rattle.rules.specs.Evaluation.{alert, status}
 use Rattle.flags.specs.declared.Flag.{Flag}
 use Rattle.flags.specs.declared.Flag.the-variants.{Clear}
 use Rattle.flags.specs.Flags.{flagOf}
-use Rattle.fillings.specs.PossibleStates.{someBelow, has}
+use Rattle.fillings.specs.PossibleStates.{has}
 use Rattle.fillings.specs.Flags.{flag}
-use Rattle.fillings.proofs.Bools.{and-left, and-right, both, refuted, some-intro, some-elim, bool-ext}
 use Rattle.states.specs.Records.{bit, at, statesOf}
 use Rattle.states.specs.Words.{Below, Alerting}
-use Rattle.states.proofs.Bits.{bit-double, equal?}
+use Rattle.states.proofs.Bits.{bit-double}
 use Rattle.states.proofs.Packing.{half, parity}
 use Rattle.states.proofs.Moving.{has-states, some-states}
 

@@ -10,10 +10,10 @@ use lib.ListN.{getD, length}
 use lib.Seq.{ext-getD}
 use lib.Bits.{bitOr}
 use borrow.Author.Tests.{lt-ltb, le-ltb}
-use Rattle.fillings.proofs.Bools.{and-left, and-right, both}
+use Rattle.lists.proofs.Bools.{and-left, and-right, both, below?}
 use Rattle.states.specs.Records.{bit, at}
 use Rattle.states.specs.Words.{Same, wordUp, WordsUp, Joined, Filled}
-use Rattle.states.proofs.Bits.{bit-mod, bit-or, bit-shl, bit-shl-below, bit-shr, bit-past, bit-ones, below?}
+use Rattle.states.proofs.Bits.{bit-mod, bit-or, bit-shl, bit-shl-below, bit-shr, bit-past, bit-ones}
 use Rattle.states.proofs.Packing.{half}
 
 -- Whether each of five words is the same, as code computes it.

@@ -8,11 +8,13 @@ use lib.Dec.{ltb, eqb}
 use lib.ListN.{getD, length}
 use lib.Seq.{ext-getD}
 use borrow.Author.Tests.{eq-eqb, ltb-false}
+use Rattle.lists.specs.Lists.{tabulate}
+use Rattle.lists.proofs.Bools.{both-true, getD-tabulate}
 use Rattle.rules.specs.Samples.{Sample, readingsOf}
 use Rattle.rules.specs.Table.{rowAt}
 use Rattle.rules.specs.Evaluation.{trips, clears, top, evaluated}
 use Rattle.fillings.specs.Fillings.{Rule, last, Shown, seen, unseen, Config, ruleOf}
-use Rattle.fillings.specs.PossibleStates.{tabulate, Moves, found, moves, next, start, possible, unseenTimes}
+use Rattle.fillings.specs.PossibleStates.{Moves, found, moves, next, start, possible, unseenTimes}
 use Rattle.fillings.specs.Flags.{flagsOf, ruleFlags, flagsAt}
 use Rattle.fillings.specs.Demand3.{evaluations}
 use Rattle.fillings.proofs.Still.{possible-length, possible-hole}
@@ -22,7 +24,7 @@ use Rattle.states.specs.Readings.{allFlags}
 use Rattle.states.specs.Tracking.{recordAt, ShortTimes, Tracks}
 use Rattle.states.proofs.Packing.{wordsOf-length, states-words}
 use Rattle.states.proofs.AtZero.{start-words}
-use Rattle.states.proofs.RuleWords.{getD-tabulate, record-length, record-at}
+use Rattle.states.proofs.RuleWords.{record-length, record-at}
 use Rattle.states.proofs.EachRule.{record-same, rule-new}
 use Rattle.states.proofs.RuleSteps.{seen-done, unseen-done}
 use Rattle.states.proofs.RuleFlagLaws.{unknown}
@@ -96,14 +98,6 @@ module _ (p : Config) (short : ShortTimes p) (trace : ℕ → Shown) where
   kept a b i true v et e f = f e
   kept a b i false v et e f = off-possible (ruleOf p i) trace a (off-top i (sym et)) ∙ sym (off-possible (ruleOf p i) trace b (off-top i (sym et)))
 
-  and-second : (a b : Bool) → (a && b) ≡ true → b ≡ true
-  and-second true b e = e
-  and-second false b e = absurd (let z : _≡_ {A = ℕ} 0 1 = cc in omega arith)
-
-  and-first : (a b : Bool) → (a && b) ≡ true → a ≡ true
-  and-first true b e = refl
-  and-first false b e = e
-
   begins : fresh ≡ recordAt p trace 0
   unfolding possible
   begins =
@@ -117,7 +111,7 @@ module _ (p : Config) (short : ShortTimes p) (trace : ℕ → Shown) where
       (changed (P k) (P (suc k)) (λ i. movesAt k (settingOf (p .settings) i) i) (λ i. seenWords (p .idle) (readingsOf x) (settingOf (p .settings) i) i (recordAt p trace k))
       (λ i h c.
       ap (λ (q : List Bool). wordsOf (next (last (ruleOf p i)) (found (trips (p .idle) (rowAt i) (settingOf (p .settings) i) (readingsOf x)) (clears (rowAt i) (settingOf (p .settings) i) (readingsOf x))) q)) (set-at k i h)
-      ∙ ap wordsOf (seen-step (ruleOf p i) trace k x e (and-second (ltb 0 (settingOf (p .settings) i .time)) (evaluated (rowAt i) k) c)))
+      ∙ ap wordsOf (seen-step (ruleOf p i) trace k x e (both-true (ltb 0 (settingOf (p .settings) i .time)) (evaluated (rowAt i) k) c .1)))
       (λ i h c. kept k (suc k) i (ltb 0 (settingOf (p .settings) i .time)) (evaluated (rowAt i) k) refl c (still-step (ruleOf p i) trace k)))))
 
   misses : (first last : ℕ) → first ≤ last → ((t : ℕ) → first ≤ t → t ≤ last → trace t ≡ unseen)

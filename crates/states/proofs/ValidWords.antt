@@ -11,28 +11,16 @@ use lib.Dec.{T, ltb, eqb, ltb→lt, lt→ltb, eqb→eq, eqb-refl}
 use lib.ListN.{getD, length}
 use borrow.Author.Tests.{lt-ltb, le-ltb, eq-eqb, ne-eqb, eqb-true, eqb-false}
 use borrow.Author.Count.{below-more}
+use Rattle.lists.specs.Lists.{tabulate, someBelow, everyBelow}
+use Rattle.lists.proofs.Bools.{and-left, and-right, both, is-true, refuted, both-false, below?, some-intro, some-elim, every-intro, every-elim, getD-tabulate}
 use Rattle.rules.specs.declared.Setting.{Setting}
 use Rattle.rules.specs.Evaluation.{top}
-use Rattle.fillings.specs.PossibleStates.{tabulate, someBelow}
-use Rattle.fillings.proofs.Bools.{and-left, and-right, both, is-true, refuted, some-intro, some-elim, bool-ext, length-tabulate}
 use Rattle.states.specs.Records.{bit, at}
 use Rattle.states.specs.Words.{belowWord, Below}
 use Rattle.states.specs.Steps.{settingOf}
-use Rattle.states.specs.Validity.{everyBelow, validSet, validRecord}
-use Rattle.states.proofs.Bits.{below?, equal?}
+use Rattle.states.specs.Validity.{validSet, validRecord}
 use Rattle.states.proofs.Packing.{same-bits}
 use Rattle.states.proofs.FiveWords.{below-bits, some-none, some-word}
-use Rattle.states.proofs.RuleWords.{getD-tabulate}
-
-pub every-intro : (n : ℕ) (f : ℕ → Bool) → ((i : ℕ) → i < n → T (f i)) → T (everyBelow n f)
-every-intro zero f h = tt
-every-intro (suc n) f h =
-    both (f 0) (everyBelow n (λ i. f (suc i))) (h 0 (omega arith)) (every-intro n (λ i. f (suc i)) (λ i l. h (suc i) (omega arith)))
-
-pub every-elim : (n : ℕ) (f : ℕ → Bool) → T (everyBelow n f) → (i : ℕ) → i < n → T (f i)
-every-elim zero f t i l = absurd (omega arith)
-every-elim (suc n) f t zero l = and-left (f 0) (everyBelow n (λ i. f (suc i))) t
-every-elim (suc n) f t (suc i) l = every-elim n (λ i. f (suc i)) (and-right (f 0) (everyBelow n (λ i. f (suc i))) t) i (omega arith)
 
 -- A state above the top.
 abbrev pub above : ℕ → List ℕ → ℕ → Bool
@@ -118,14 +106,10 @@ module _ (w : List ℕ) (t : ℕ) where
   checked-next found j x c h e fits q u = record {
     within = omega arith;
     low = below-more _ j (c .low) (ap (belowWord t j) (sym e) ∙ eqb-true (belowWord t j x) x (sym q ∙ u) ∙ e);
-    none = λ n. let (f, z) = neither found (not (eqb x 0)) n in below-more _ j (c .none f) (sym e ∙ zero-word (eqb x 0) refl z);
+    none = λ n. let (f, z) = both-false found (not (eqb x 0)) n in below-more _ j (c .none f) (sym e ∙ zero-word (eqb x 0) refl z);
     some = λ n. either (eqb x 0) refl n;
   }
     where
-      neither : (a b : Bool) → (a || b) ≡ false → (a ≡ false) × (b ≡ false)
-      neither true b q = let z : _≡_ {A = ℕ} 0 1 = cc in absurd (omega arith)
-      neither false b q = (refl, q)
-
       zero-word : (b : Bool) → eqb x 0 ≡ b → not b ≡ false → x ≡ 0
       zero-word true q z = eqb-true x 0 q
       zero-word false q z = let y : _≡_ {A = ℕ} 0 1 = cc in absurd (omega arith)

@@ -4,7 +4,8 @@ use mathlib.Core.Bool.{Bool, true, cond}
 use mathlib.Core.List.{List, [], _∷_}
 use lib.Dec.{eqb}
 use lib.ListN.{getD, take, drop}
-use Rattle.fillings.specs.PossibleStates.{tabulate, start}
+use Rattle.lists.specs.Lists.{tabulate}
+use Rattle.fillings.specs.PossibleStates.{start}
 
 -- Bit r of a word.
 unfoldable pub bit : ℕ → ℕ → Bool

@@ -4,16 +4,11 @@ use mathlib.Core.Bool.{Bool, true, not, _&&_}
 use mathlib.Core.List.{List}
 use lib.Dec.{ltb, eqb}
 use lib.ListN.{length}
+use Rattle.lists.specs.Lists.{someBelow, everyBelow}
 use Rattle.rules.specs.declared.Setting.{Setting}
 use Rattle.rules.specs.Evaluation.{top}
-use Rattle.fillings.specs.PossibleStates.{someBelow}
 use Rattle.states.specs.Records.{at, ruleWords}
 use Rattle.states.specs.Steps.{settingOf}
-
--- Whether a test holds of every number below n.
-abbrev pub everyBelow : ℕ → (ℕ → Bool) → Bool
-everyBelow zero f = true
-everyBelow (suc n) f = f 0 && everyBelow n (λ i. f (suc i))
 
 -- Of rule i a state from 0 to the top is possible, and none above the top.
 abbrev pub validSet : Setting → ℕ → List ℕ → Bool

@@ -7,6 +7,7 @@ use native.Mathlib.Omega.{arith}
 use lib.ListN.{length, getD, List·getD-eq-default}
 use lib.Dec.{T, ltb, leb, eqb}
 use borrow.Author.Tests.{ltb-true, ltb-false, leb-true, eqb-true}
+use Rattle.lists.proofs.Bools.{is-true, both-true}
 use Rattle.refusals.specs.Refusals.{answer, andThen}
 use Rattle.bytes_le.specs.Numbers.{u16At}
 use Rattle.rules.specs.Samples.{cellCount}
@@ -22,9 +23,7 @@ use Rattle.trace.specs.declared.Layout.{Layout}
 use Rattle.refusals.proofs.Answers.{unless, where-true, answered}
 use Rattle.trace.proofs.Layouts.{parts-are}
 use Rattle.fillings.specs.Fillings.{Config, SoundConfig}
-use Rattle.fillings.proofs.Bools.{is-true}
 use Rattle.ticks.specs.Traces.{traceOf, Accepted}
-use Rattle.ticks.proofs.Tests.{and-true}
 
 -- Each check of an accepted trace.
 pub record Checks (s : List ℕ) (w : Parsed) : Type 0 where
@@ -59,7 +58,7 @@ rules-sound : (n idle : ℕ) (bytes : List ℕ) → L.ruleSetAnswer n bytes ≡ 
 unfolding L.ruleSetAnswer
 rules-sound n idle bytes h k i l =
     let a = where-true (leb 3 n && leb n 12) 3 0 _ h in
-    let b = and-true (leb 3 n) (leb n 12) (a .0) in
+    let b = both-true (leb 3 n) (leb n 12) (a .0) in
     let c = where-true (eqb (length bytes) 160) 6 0 _ (a .1) in
     record {
       leastCells = leb-true 3 n (b .0);

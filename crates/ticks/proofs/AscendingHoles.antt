@@ -7,12 +7,12 @@ use native.Mathlib.Omega.{arith}
 use native.Mathlib.Numerals.{add-one}
 use lib.Dec.{ltb}
 use borrow.Author.Tests.{le-ltb, ltb-false, lt-leb}
+use Rattle.lists.proofs.Bools.{both-false}
 use Rattle.refusals.specs.Refusals.{answer}
 use Rattle.trace.specs.Records.{Hole}
 use Rattle.trace.specs.Coverage.{holesAnswer}
 use Rattle.refusals.proofs.Answers.{unless}
 use Rattle.ticks.specs.Traces.{inHole}
-use Rattle.ticks.proofs.Tests.{or-false}
 
 -- Each hole runs forward, ends below FFFFFFFFh and starts after its predecessor, the first one at `low` or later.
 abbrev pub Ascending : ℕ → List Hole → Type 0
@@ -24,8 +24,8 @@ unfolding holesAnswer
 ascending [] i low e = tt
 ascending (h ∷ hs) i low e =
     let p = unless (ltb (h .first) low || (ltb (h .last) (h .first) || ltb 0xFFFFFFFE (h .last))) 8 i _ e in
-    let a = or-false (ltb (h .first) low) _ (p .0) in
-    let b = or-false (ltb (h .last) (h .first)) _ (a .1) in
+    let a = both-false (ltb (h .first) low) _ (p .0) in
+    let b = both-false (ltb (h .last) (h .first)) _ (a .1) in
     let c = ltb-false 0xFFFFFFFE (h .last) (b .1) in
     (ltb-false _ _ (a .0), ltb-false _ _ (b .0), omega arith, ascending hs (suc i) (suc (h .last)) (rw add-one at (p .1)))
 

@@ -8,6 +8,7 @@ use native.Mathlib.Numerals.{add-one}
 use lib.ListN.{length}
 use lib.Dec.{ltb, leb, eqb}
 use borrow.Author.Tests.{ltb-false, leb-false, le-ltb, le-leb, lt-leb, eq-eqb, ne-eqb}
+use Rattle.lists.proofs.Bools.{both-false, by-order}
 use Rattle.refusals.specs.Refusals.{answer}
 use Rattle.trace.specs.Records.{Hole, Reply, Stamped}
 use Rattle.trace.specs.Coverage.{holeNext, sampleNext, coverAnswer, repliesAnswer}
@@ -15,7 +16,6 @@ use Rattle.refusals.proofs.Answers.{unless}
 use Rattle.ticks.specs.Traces.{Trace, shownIn, hasSample, Accepted}
 use Rattle.ticks.specs.Cut.{cutHoles, cutReplies, cutSamples, cutAt}
 use Rattle.ticks.specs.Promises.{CutHolds}
-use Rattle.ticks.proofs.Tests.{by-order, or-false}
 use Rattle.ticks.proofs.AscendingHoles.{Ascending, ascending, in-order, lower}
 use Rattle.ticks.specs.Places.{NotYet, Place, done, hole, sample}
 use Rattle.ticks.proofs.Places.{place-low, place-start, no-sample-before, not-yet, ascends-later}
@@ -73,7 +73,7 @@ cut-place t n hs (x ∷ xs) e (sample a b c p) o l =
 -- Where no sample left bears a tick, the next one does not.
 not-next : (xs : List Stamped) (t : ℕ) → hasSample xs t ≡ false → sampleNext xs t ≡ false
 not-next [] t e = refl
-not-next (x ∷ xs) t e = or-false (eqb (x .tick) t) (hasSample xs t) e .0
+not-next (x ∷ xs) t e = both-false (eqb (x .tick) t) (hasSample xs t) e .0
 
 no-hole-next : (hs : List Hole) (e : ℕ) → NotYet hs e → holeNext hs e ≡ false
 no-hole-next [] e n = refl
@@ -98,7 +98,7 @@ unfolding repliesAnswer cutReplies
 cut-replies t m [] i j low low′ l e = refl
 cut-replies t m (r ∷ rs) i j low low′ l e =
     let p = unless (ltb (r .tick) low || leb m (r .tick)) 10 i _ e in
-    let a = ltb-false (r .tick) low (or-false (ltb (r .tick) low) _ (p .0) .0) in
+    let a = ltb-false (r .tick) low (both-false (ltb (r .tick) low) _ (p .0) .0) in
     by-order t (r .tick)
     (λ n. rw (lt-leb (r .tick) t n) (cut-replies t m rs (suc i) j (r .tick) low′ (omega arith) (p .1)))
     (λ n.
@@ -136,7 +136,7 @@ unfolding repliesAnswer cutReplies
 kept-replies t m n [] i low e = refl
 kept-replies t m n (r ∷ rs) i low e =
     let p = unless (ltb (r .tick) low || leb m (r .tick)) 10 i _ e in
-    let l = leb-false m (r .tick) (or-false (ltb (r .tick) low) _ (p .0) .1) in
+    let l = leb-false m (r .tick) (both-false (ltb (r .tick) low) _ (p .0) .1) in
     rw (le-leb (r .tick) t (omega arith), kept-replies t m n rs (suc i) (r .tick) (p .1))
 
 kept-whole : (tr : Trace) → Accepted tr → (t : ℕ) → suc t ≡ tr .ticks → cutAt tr t ≡ tr

@@ -1,4 +1,3 @@
-pub mod Tests
 pub mod AscendingHoles
 pub mod Places
 pub mod AcceptedBytes

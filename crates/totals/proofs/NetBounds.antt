@@ -11,7 +11,7 @@ use borrow.Author.Tests.{leb-true}
 use mir.Syntax.{w64}
 use mir.Val.{SFits, toZ, ofZ}
 use mir.ValLaws.{toZ-ofZ, toZ-pos}
-use Rattle.ticks.proofs.Tests.{and-true}
+use Rattle.lists.proofs.Bools.{both-true}
 use Rattle.totals.specs.Totals.{countable}
 
 mag-subℕ : (a b : ℕ) → mag (subℕ a b) ≤ a + b
@@ -69,6 +69,6 @@ module _ {charge-in charge-out unseen : ℕ} (b : (charge-in ≤ 32768 * 4294967
 -- What totals that a number of ticks can give are at most.
 pub counted : (i o u ticks : ℕ) → countable i o u ticks ≡ true → (i ≤ 32768 * ticks) × (o ≤ 32768 * ticks) × (u ≤ ticks)
 counted i o u ticks e =
-    let (p, q) = and-true (leb i (32768 * ticks) && leb o (32768 * ticks)) (leb u ticks) e in
-    let (a, b) = and-true (leb i (32768 * ticks)) (leb o (32768 * ticks)) p in
+    let (p, q) = both-true (leb i (32768 * ticks) && leb o (32768 * ticks)) (leb u ticks) e in
+    let (a, b) = both-true (leb i (32768 * ticks)) (leb o (32768 * ticks)) p in
     (leb-true i (32768 * ticks) a, leb-true o (32768 * ticks) b, leb-true u ticks q)

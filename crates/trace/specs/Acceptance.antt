@@ -2,9 +2,10 @@
 use Prim.Native.Nat.{ℕ, _+_}
 use mathlib.Core.List.{List}
 use lib.ListN.{length}
+use Rattle.lists.specs.Lists.{tabulate}
 use Rattle.refusals.specs.Refusals.{Answer, answer, refused, refusal, andThen}
 use Rattle.rules.specs.declared.Setting.{Setting}
-use Rattle.limits.specs.Limits.{off, tabulateFrom, settingsOf}
+use Rattle.limits.specs.Limits.{off, settingsOf}
 use Rattle.limits.specs.Limits as limits
 use Rattle.trace.specs.Records.{holesIn, repliesIn, samplesIn}
 use Rattle.trace.specs.Sections.{walkAnswer, rulesPart, holesPart, repliesPart, samplesPart}
@@ -54,4 +55,4 @@ layoutOf (refused number place) =
 -- The settings that are handed on: all off where the trace is refused.
 abbrev pub settingsIn : Answer Parsed → List Setting
 settingsIn (answer w) = w .settings
-settingsIn (refused number place) = tabulateFrom 0 16 (λ i. off)
+settingsIn (refused number place) = tabulate 16 (λ i. off)

@@ -7,6 +7,7 @@ use native.Mathlib.Omega.{arith}
 use lib.Dec.{leb}
 use lib.ListN.{length}
 use borrow.Author.Tests.{leb-true, leb-false, le-leb, lt-leb}
+use Rattle.lists.proofs.Bools.{both-true}
 use Rattle.bytes_le.specs.Numbers.{u32At}
 use Rattle.walk.specs.declared.Cursor.{Cursor}
 use Rattle.walk.specs.declared.Ahead.{Ahead}
@@ -58,10 +59,10 @@ module _ (holes samples : List ℕ) (width : ℕ) (c : Cursor) (to : ℕ) where
   unfolding ahead
   none-ahead h e f = rw (lt-leb to (c .tick) h, e, f)
 
--- A hole that holds the tick lies within its part.
-pub hole-lies : (holes : List ℕ) (c : Cursor) → holeHere holes c ≡ true → c .hole + 8 ≤ length holes
-hole-lies holes c e = leb-true _ _ (first (leb (c .hole + 8) (length holes)) _ e)
-  where
-    first : (a b : Bool) → (a && b) ≡ true → a ≡ true
-    first true b h = refl
-    first false b h = let z : _≡_ {A = ℕ} 0 1 = cc in absurd (omega arith)
+-- A hole that holds the tick lies within its part, begins at the tick or before, and ends there or after.
+pub hole-holds : (holes : List ℕ) (c : Cursor) → holeHere holes c ≡ true
+    → (c .hole + 8 ≤ length holes) × (u32At holes (c .hole) ≤ c .tick) × (c .tick ≤ u32At holes (c .hole + 4))
+hole-holds holes c e =
+    let (lies, h) = both-true (leb (c .hole + 8) (length holes)) _ e in
+    let (begun, lasts) = both-true (leb (u32At holes (c .hole)) (c .tick)) (leb (c .tick) (u32At holes (c .hole + 4))) h in
+    (leb-true _ _ lies, leb-true _ _ begun, leb-true _ _ lasts)

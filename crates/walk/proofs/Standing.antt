@@ -21,7 +21,7 @@ use Rattle.walk.specs.declared.Ahead.{Ahead}
 use Rattle.walk.specs.declared.Ahead.the-variants.{Unseen, Sample, End}
 use Rattle.walk.specs.Walk.{holeHere, pastRun, pastSample, ahead}
 use Rattle.walk.specs.Places.{shows, Stands, Missed, Passed}
-use Rattle.walk.proofs.Looking.{at-the-end, unseen-ahead, sample-ahead, none-ahead}
+use Rattle.walk.proofs.Looking.{hole-holds, at-the-end, unseen-ahead, sample-ahead, none-ahead}
 
 -- The three things that can come next, each with its tests.
 data Found (holes samples : List ℕ) (width : ℕ) (c : Cursor) (to : ℕ) : Ahead → Type 0 where
@@ -62,12 +62,6 @@ module _ {holes samples : List ℕ} {width : ℕ} {c : Cursor} {to : ℕ} where
   is-taken (taken l h f) d e = (l, h, f, cc)
   is-taken (none l h f) d e = let z : NotBoth = cc in absurd (omega arith)
 
--- What a test of three says.
-all-three : (a b d : Bool) → (a && (b && d)) ≡ true → (a ≡ true) × (b ≡ true) × (d ≡ true)
-all-three true true d h = (refl, refl, h)
-all-three true false d h = let z : NotBoth = cc in absurd (omega arith)
-all-three false b d h = let z : NotBoth = cc in absurd (omega arith)
-
 -- The walk goes on wherever it stands, and not past the tick `to`.
 run-goes-on : (holes : List ℕ) (c : Cursor) (to : ℕ) → c .tick < to → holeHere holes c ≡ true → (c .tick < pastRun holes c to .tick) × (pastRun holes c to .tick ≤ to)
 run-goes-on holes c to l h = go (leb to (u32At holes (c .hole + 4))) refl
@@ -75,8 +69,7 @@ run-goes-on holes c to l h = go (leb to (u32At holes (c .hole + 4))) refl
     go : (b : Bool) → leb to (u32At holes (c .hole + 4)) ≡ b → (c .tick < pastRun holes c to .tick) × (pastRun holes c to .tick ≤ to)
     go true e = rw e (l, omega arith)
     go false e =
-        let z = all-three (leb (c .hole + 8) (length holes)) (leb (u32At holes (c .hole)) (c .tick)) (leb (c .tick) (u32At holes (c .hole + 4))) h in
-        let k = leb-true (c .tick) (u32At holes (c .hole + 4)) (z .2) in
+        let (lies, begun, lasts) = hole-holds holes c h in
         let i = leb-false to (u32At holes (c .hole + 4)) e in
         rw e (omega arith, omega arith)
 
@@ -178,10 +171,9 @@ module _ {n : ℕ} {holes samples : List ℕ} {m : ℕ} {c : Cursor} (g : Stands
   pub missed : (to : ℕ) → to ≤ m → {d : Cursor} → ahead holes samples (sampleWidth n) c to ≡ Unseen d → Missed n holes samples m c d to
   missed to k {d} e =
       let (l, f, p) = is-run (found holes samples (sampleWidth n) c to) d e in
-      let (x, y, z) = all-three (leb (c .hole + 8) (length holes)) (leb (u32At holes (c .hole)) (c .tick)) (leb (c .tick) last) f in
-      let i = leb-true (c .hole + 8) (length holes) x in
+      let (lies, begun, lasts) = hole-holds holes c f in
       let some : 0 < g .holesLeft = omega (arith, g .inHoles) in
-      subst (λ (y : Cursor). Missed n holes samples m c y to) p (run-past to l k some (leb-true _ _ y) (leb to last) refl)
+      subst (λ (y : Cursor). Missed n holes samples m c y to) p (run-past to l k some begun (leb to last) refl)
 
   abbrev x : Stamped
   x = stampedAt n samples (c .sample)

@@ -1,4 +1,5 @@
-use Rattle.limits.specs.Limits.{settingsOf, tabulateFrom, off}
+use Rattle.lists.specs.Lists.{tabulate}
+use Rattle.limits.specs.Limits.{settingsOf, off}
 use Rattle.live.specs.Calls.{beginAnswer}
 use Rattle.buttmitrel_live.proofs.Feeding.{begins}
 use borrow.Author.Needs.{needs}
@@ -22,7 +23,7 @@ returns c =
     let s = c .before .before .before .before in
     let b = s .before .before .before in
     let a = b .before .before .before .before .args in
-    begins (a .words .now) (a .totals .now) (a .cells) (a .idle) (settingsOf (a .rules .now)) (tabulateFrom 0 16 (λ i. off)) (beginAnswer (a .cells) (a .idle) (a .rules .now))
+    begins (a .words .now) (a .totals .now) (a .cells) (a .idle) (settingsOf (a .rules .now)) (tabulate 16 (λ i. off)) (beginAnswer (a .cells) (a .idle) (a .rules .now))
     (b .begin .ensures .0) (b .begin .ensures .1) (s .store .ensures)
 
 pub buttmitrel-live-begin-spec : {M : Type 1} → statement M

@@ -3,12 +3,12 @@ use Prim.Native.Nat.{ℕ, _/_, _≤_}
 use mathlib.Core.Path.{_≡_}
 use mathlib.Core.List.{List}
 use lib.ListN.{getD, length}
+use Rattle.lists.specs.Lists.{tabulate}
 use Rattle.refusals.specs.Refusals.{answer}
 use Rattle.trace.specs.Records.{repliesIn}
 use Rattle.trace.specs.Coverage.{repliesAnswer}
 use Rattle.report.specs.declared.FirstTicks.{FirstTicks}
 use Rattle.report.specs.declared.Totals.{Totals}
-use Rattle.fillings.specs.PossibleStates.{tabulate}
 use Rattle.fillings.specs.Charge.{inward, outward}
 use Rattle.totals.specs.Totals.{chargeSum, unseenSum}
 use Rattle.walk.specs.Walk.{startOf}

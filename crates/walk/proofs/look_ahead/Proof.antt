@@ -6,7 +6,7 @@ use borrow.Author.Needs.{needs}
 use borrow.Author.Tests.{leb-true}
 use Rattle.walk.specs.declared.Cursor.{Cursor}
 use Rattle.walk.specs.declared.Ahead.the-variants.{Unseen, Sample}
-use Rattle.walk.proofs.Looking.{hole-lies, at-the-end, unseen-ahead, sample-ahead, none-ahead}
+use Rattle.walk.proofs.Looking.{hole-holds, at-the-end, unseen-ahead, sample-ahead, none-ahead}
 use Rattle.walk.proofs.look_ahead.Statement.{statement}
 use Rattle.walk.proofs.look_ahead.Tie as tie
 
@@ -19,7 +19,7 @@ hole-here-requires c κs = search needs
 past-run-requires : tie.Need-past-run-requires
 past-run-requires c κs =
     let a = c .before .before .before .before .before .before .args in
-    let l = hole-lies (a .holes .now) (a .c) (sym (c .before .hole-here .ensures) ∙ c .if2 .taken) in
+    let (l, begun, lasts) = hole-holds (a .holes .now) (a .c) (sym (c .before .hole-here .ensures) ∙ c .if2 .taken) in
     omega (arith, l)
 
 returns-2 : tie.Need-returns-2

@@ -5,7 +5,8 @@ use lib.ListN.{getD, replicate}
 use mir.Val.{Fits}
 use mir.Syntax.{w64}
 use borrow.Author.Needs.{needs}
-use Rattle.fillings.specs.PossibleStates.{someBelow, found}
+use Rattle.lists.specs.Lists.{someBelow}
+use Rattle.fillings.specs.PossibleStates.{found}
 use Rattle.states.specs.Records.{at}
 use Rattle.states.proofs.FiveWords.{raised-up, raised-none}
 use Rattle.states.proofs.Moving.{moved-made}
