@@ -27,7 +27,7 @@ use Rattle.live.specs.State.{good, begun}
 use Rattle.live.specs.Calls.{beginAnswer, beginState}
 use Rattle.live.proofs.GoodStates.{parts}
 use Rattle.buttmitrel_live.specs.Live.{stateOf, isKept}
-use Rattle.buttmitrel_live.specs.Keeping.{areTotals, totalsOf, Filled, Loaded}
+use Rattle.buttmitrel_live.specs.inner.Keeping.{areTotals, totalsOf, Filled, Loaded}
 
 -- The loop that copies eighty words: those below i are copied.
 pub record Copying (from to : List ℕ) (i : ℕ) : Type 0 where

@@ -1,2 +1,2 @@
 pub mod Live
-pub mod Keeping
+pub mod inner

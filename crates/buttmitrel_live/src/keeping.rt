@@ -5,7 +5,7 @@ ghost use lib.ListN.{length};
 ghost use Rattle.live.specs.Calls.{answerOfFed, ofGood};
 ghost use Rattle.buttmitrel.specs.Code.{codeOf};
 ghost use Rattle.buttmitrel_live.specs.Live.{stateOf, listAfter, totalsList, begunAnswer, reportedAnswer, stateReport};
-ghost use Rattle.buttmitrel_live.specs.Keeping.{areTotals, totalsOf, Filled, Loaded};
+ghost use Rattle.buttmitrel_live.specs.inner.Keeping.{areTotals, totalsOf, Filled, Loaded};
 use buttmitrel::code;
 use live::Fed;
 use live::Live;

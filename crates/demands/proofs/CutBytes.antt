@@ -19,12 +19,12 @@ use Rattle.trace.proofs.WholeParts.{holes-whole, replies-whole, samples-whole}
 use Rattle.trace.proofs.WrittenSections.{trace-are, part-are}
 use Rattle.ticks.specs.Traces.{Trace, traceOf, Accepted}
 use Rattle.ticks.specs.Cut.{cutAt}
-use Rattle.ticks.specs.Promises.{writtenTrace}
+use Rattle.ticks.specs.promises.Promises.{writtenTrace}
 use Rattle.ticks.proofs.Places.{place-start}
 use Rattle.ticks.proofs.AcceptedBytes.{Checks, checks, accepted}
 use Rattle.ticks.proofs.Cuts.{cut-holds}
 use Rattle.ticks.proofs.WrittenTraces.{written-trace, start-passed, start-config}
-use Rattle.demands.specs.CutBytes.{cutBytes, CutBytes}
+use Rattle.demands.specs.promises.CutBytes.{cutBytes, CutBytes}
 use Rattle.demands.proofs.CutRecords.{fewer-holes, first-replies, first-samples}
 
 -- The cut trace, and the bytes of its replies and of its samples.

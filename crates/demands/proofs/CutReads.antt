@@ -18,7 +18,7 @@ use Rattle.ticks.specs.Traces.{Trace, shown, Accepted}
 use Rattle.ticks.specs.Cut.{cutAt}
 use Rattle.ticks.proofs.Cuts.{cut-holds}
 use Rattle.demands.specs.Reading.{byteAt, alertAt, statusAt, ruleIn}
-use Rattle.demands.specs.Demand3.{outputAt}
+use Rattle.demands.specs.promises.Demand3.{outputAt}
 use Rattle.demands.proofs.ReportReads.{report-alert, report-status, report-charge, report-discharge, report-fuse}
 
 pub tabulate-same : {A : Type 0} (n : ℕ) (f g : ℕ → A) → ((i : ℕ) → i < n → f i ≡ g i) → tabulate n f ≡ tabulate n g

@@ -13,7 +13,7 @@ use Rattle.trace.specs.Records.{Hole, Reply, Stamped}
 use Rattle.trace.specs.Coverage.{repliesAnswer}
 use Rattle.refusals.proofs.Answers.{unless}
 use Rattle.ticks.specs.Cut.{cutHoles, cutReplies, cutSamples}
-use Rattle.ticks.specs.Places.{Place, done, hole, sample}
+use Rattle.ticks.specs.inner.Places.{Place, done, hole, sample}
 use Rattle.ticks.proofs.Cuts.{no-samples}
 
 -- A list that is the first part of another.

@@ -31,8 +31,8 @@ use Rattle.ticks.proofs.AcceptedBytes.{accepted}
 use Rattle.ticks.proofs.CoveredOnce.{covered-once}
 use Rattle.demands.specs.Verdicts.{tickOf, verdictOn, traceVerdicts}
 use Rattle.demands.specs.Reading.{ruleIn, Fills, UnderEvery, UnderSome}
-use Rattle.demands.specs.Demand3.{outputAt}
-use Rattle.demands.specs.Demand2.{runState, runActive, runOutput, runVerdict, RunJudged, TotalsJudged, Demand2}
+use Rattle.demands.specs.promises.Demand3.{outputAt}
+use Rattle.demands.specs.promises.Demand2.{runState, runActive, runOutput, runVerdict, RunJudged, TotalsJudged, Demand2}
 use Rattle.demands.proofs.ReportReads.{report-long, report-in, report-out, report-unseen, report-ticks}
 use Rattle.demands.proofs.TotalBounds.{Currents, currents, ticks-fit, unseen-fit, in-fits, out-fits}
 use Rattle.demands.proofs.FillingsOfTrace.{rule-known, always}

@@ -15,13 +15,13 @@ use Rattle.flags.specs.declared.Output.{Output}
 use Rattle.flags.specs.Flags.{numberOf}
 use Rattle.flags.specs.Outputs.{drivers, activeOf}
 use Rattle.fillings.specs.Fillings.{last}
-use Rattle.fillings.specs.Demand3.{First, OutputSound}
+use Rattle.fillings.specs.promises.Demand3.{First, OutputSound}
 use Rattle.fillings.proofs.Outputs.{output-sound}
 use Rattle.fillings.proofs.Charge.{charge-bounded}
 use Rattle.ticks.specs.Traces.{Trace, traceOf, shown, inHole, Accepted}
 use Rattle.ticks.proofs.AcceptedBytes.{accepted}
 use Rattle.demands.specs.Reading.{ruleIn, Fills, stateUnder, SureAt}
-use Rattle.demands.specs.Demand3.{RuleJudged, activeUnder, OutputsJudged, leastNet, greatestNet, ChargeJudged, TraceJudged, Demand3}
+use Rattle.demands.specs.promises.Demand3.{RuleJudged, activeUnder, OutputsJudged, leastNet, greatestNet, ChargeJudged, TraceJudged, Demand3}
 use Rattle.demands.proofs.ReportReads.{report-possible, report-held}
 use Rattle.demands.proofs.TotalBounds.{ticks-fit}
 use Rattle.demands.proofs.FillingsOfTrace.{rule-known, within, within-fills, within-alike, filling-fills, after-within, net-within, every, always, some, sometimes, sure-at, sure}

@@ -22,7 +22,7 @@ use Rattle.fillings.specs.Outputs.{output}
 use Rattle.ticks.specs.Traces.{Trace, shown, Accepted}
 use Rattle.ticks.proofs.Cuts.{cut-holds}
 use Rattle.demands.specs.Reading.{ruleIn}
-use Rattle.demands.specs.Demand3.{EndJudged}
+use Rattle.demands.specs.promises.Demand3.{EndJudged}
 use Rattle.demands.proofs.ReportReads.{report-alert, report-status, report-charge, report-discharge, report-fuse}
 use Rattle.demands.proofs.FillingsOfTrace.{rule-known}
 use Rattle.demands.proofs.CutReads.{tabulate-same}

@@ -9,7 +9,7 @@ use Rattle.trace.specs.Sections.{headAnswer, rulesAnswer, sectionAnswer, walkAn
 use Rattle.trace.specs.Coverage.{holesAnswer, coverAnswer, repliesAnswer}
 use Rattle.trace.specs.Acceptance.{Parsed, acceptAnswer}
 use Rattle.ticks.specs.Traces.{traceOf}
-use Rattle.demands.specs.Examples.{withoutHole, withHole}
+use Rattle.demands.specs.promises.Examples.{withoutHole, withHole}
 
 pub without-hole-accepted : (w : Parsed) × (acceptAnswer withoutHole ≡ answer w) × (traceOf withoutHole w .holes ≡ [])
 unfolding acceptAnswer walkAnswer headAnswer rulesAnswer sectionAnswer L.ruleSetAnswer limitsAnswer limits holesAnswer coverAnswer repliesAnswer spaced

@@ -12,11 +12,11 @@ use Rattle.rules.specs.Evaluation.{evaluated}
 use Rattle.trace.specs.Records.{Stamped}
 use Rattle.fillings.specs.Fillings.{Rule, Shown, seen, unseen, Filling, filled, evaluate, after}
 use Rattle.fillings.specs.Charge.{netCharge}
-use Rattle.fillings.specs.Demand3.{Always, Sometimes, Sure, Judged}
+use Rattle.fillings.specs.promises.Demand3.{Always, Sometimes, Sure, Judged}
 use Rattle.fillings.proofs.Witness.{blank, blank-carried}
 use Rattle.fillings.proofs.Demand3.{judged}
 use Rattle.ticks.specs.Traces.{Trace, shown, shownIn, hasSample, inHole, Accepted}
-use Rattle.ticks.specs.Promises.{CoveredOnce}
+use Rattle.ticks.specs.promises.Promises.{CoveredOnce}
 use Rattle.ticks.proofs.CoveredOnce.{covered-once}
 use Rattle.demands.specs.Reading.{ruleIn, Fills, UnderEvery, UnderSome, SureAt}
 

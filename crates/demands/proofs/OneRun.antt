@@ -11,10 +11,10 @@ use Rattle.rules.specs.Evaluation.{evaluated}
 use Rattle.trace.specs.Records.{Stamped}
 use Rattle.fillings.specs.Fillings.{Rule, Shown, filled, evaluate, after}
 use Rattle.ticks.specs.Traces.{Trace, shown, shownIn, Accepted}
-use Rattle.ticks.specs.Places.{Place, done, sample}
+use Rattle.ticks.specs.inner.Places.{Place, done, sample}
 use Rattle.ticks.proofs.Places.{place-start, shown-first, shown-later}
 use Rattle.demands.specs.Reading.{ruleIn, stateUnder}
-use Rattle.demands.specs.Demand2.{runFrom, runState}
+use Rattle.demands.specs.promises.Demand2.{runFrom, runState}
 
 -- From a place with no hole left, each sample left has one tick.
 places-long : {m : ℕ} (xs : List Stamped) (e : ℕ) → Place m [] xs e → m ≡ e + length xs

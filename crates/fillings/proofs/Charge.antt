@@ -9,7 +9,7 @@ use lib.Dec.{T, le→leb, lit<}
 use Rattle.rules.specs.Samples.{Sample, I16}
 use Rattle.fillings.specs.Fillings.{Shown, seen, unseen, Filling, filled}
 use Rattle.fillings.specs.Charge.{inward, outward, ofSeen, ofUnseen, total, chargeIn, chargeOut, unseenTicks, netCharge, leastCharge, greatestCharge}
-use Rattle.fillings.specs.Demand3.{ChargeBounded}
+use Rattle.fillings.specs.promises.Demand3.{ChargeBounded}
 use Rattle.fillings.proofs.Integers.{le-self, add-swap, sub-swap, add-le}
 use Rattle.fillings.proofs.Witness.{drawing, drawing-carried}
 

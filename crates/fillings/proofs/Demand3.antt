@@ -4,7 +4,7 @@ use native.Mathlib.Omega.{arith}
 use mathlib.Core.Path.{ap}
 use Rattle.rules.specs.Evaluation.{alert, status}
 use Rattle.fillings.specs.Fillings.{Rule, Sound, last, Shown}
-use Rattle.fillings.specs.Demand3.{Judged}
+use Rattle.fillings.specs.promises.Demand3.{Judged}
 use Rattle.fillings.proofs.Exact as E
 use Rattle.fillings.proofs.Flags.{held-exactly, clear-exactly, unknown-exactly, first-possible-right, first-held-right}
 use Rattle.fillings.proofs.Sure.{recovered-sure, counted-sure, sure-onwards}

@@ -8,7 +8,7 @@ use mathlib.Core.Bool.{Bool, true, false, not, cond, _||_}
 use lib.Dec.{eqb}
 use borrow.Author.Tests.{lt-ltb, le-ltb, eqb-true, eqb-false}
 use Rattle.rules.specs.declared.Row.{Row}
-use Rattle.fillings.specs.Demand3.{evaluations}
+use Rattle.fillings.specs.promises.Demand3.{evaluations}
 
 pub evaluations-every : (row : Row) (a k : ℕ) → row .even ≡ false → a ≤ k → evaluations row a k ≡ k - a
 unfolding evaluations

@@ -12,7 +12,7 @@ use Rattle.rules.specs.Samples.{Sample, Carried, readingsOf}
 use Rattle.rules.specs.Evaluation.{trips, clears, step, evaluated}
 use Rattle.fillings.specs.Fillings.{Rule, Sound, last, Shown, seen, unseen, Filling, filled, evaluate, after}
 use Rattle.fillings.specs.PossibleStates.{has, found, anything, moves, leads, next, possible}
-use Rattle.fillings.specs.Demand3.{Possible}
+use Rattle.fillings.specs.promises.Demand3.{Possible}
 use Rattle.fillings.proofs.Witness.{blank, blank-carried}
 use Rattle.fillings.proofs.Reach.{Reaches, off-or-within, reach-trip, reach-none, reach-clear}
 use Rattle.fillings.proofs.Next.{from-some, next-has, next-low, made}

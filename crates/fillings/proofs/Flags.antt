@@ -17,7 +17,7 @@ use Rattle.flags.specs.Flags.{flagOf}
 use Rattle.fillings.specs.Fillings.{Rule, Sound, last, Shown, after}
 use Rattle.fillings.specs.PossibleStates.{has, possible}
 use Rattle.fillings.specs.Flags.{flag, statusFlag, notClear, isHeld, firstFrom, firstPossible, firstHeld}
-use Rattle.fillings.specs.Demand3.{Always, Sometimes, First}
+use Rattle.fillings.specs.promises.Demand3.{Always, Sometimes, First}
 use Rattle.fillings.proofs.Exact.{after-le, sound, some-possible, complete}
 
 held-none : (a b : Bool) → flagOf a b ≡ Held → b ≡ false

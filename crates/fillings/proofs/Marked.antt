@@ -4,7 +4,7 @@ use Rattle.rules.specs.Samples.{readingsOf}
 use Rattle.rules.specs.Quantities.{value, qualified}
 use Rattle.rules.specs.Evaluation.{trips, clears}
 use Rattle.fillings.specs.PossibleStates.{moves, leads, next, possible}
-use Rattle.fillings.specs.Marked.{computedCases, markedCases}
+use Rattle.fillings.specs.promises.Marked.{computedCases, markedCases}
 
 pub marked-cases : computedCases ≡ markedCases
 unfolding readingsOf value qualified trips clears moves leads next possible

@@ -16,7 +16,7 @@ use Rattle.flags.specs.Flags.{withNext}
 use Rattle.flags.specs.Outputs.{outputOf, activeOf}
 use Rattle.fillings.specs.Fillings.{Shown, Config, SoundConfig, ruleOf, last, after}
 use Rattle.fillings.specs.Flags.{statusFlag}
-use Rattle.fillings.specs.Demand3.{OutputSound}
+use Rattle.fillings.specs.promises.Demand3.{OutputSound}
 use Rattle.fillings.proofs.Flags.{held-exactly, clear-exactly}
 
 neither : (a b : Bool) → T (not a) → T (not b) → T (not (a || b))

@@ -15,7 +15,7 @@ use Rattle.lists.proofs.Bools.{and-left, and-right, both, or-left, or-right, or
 use Rattle.rules.specs.Evaluation.{evaluated}
 use Rattle.fillings.specs.Fillings.{Rule, last, Shown, unseen}
 use Rattle.fillings.specs.PossibleStates.{has, anything, moves, next, possible, unseenTimes}
-use Rattle.fillings.specs.Demand3.{evaluations, Still}
+use Rattle.fillings.specs.promises.Demand3.{evaluations, Still}
 use Rattle.fillings.proofs.Next.{next-length, reached, by-up, by-restart, by-leave, by-stay}
 
 module _ (m : ℕ) (recovers : Bool) where

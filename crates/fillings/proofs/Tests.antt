@@ -4,7 +4,7 @@ use native.Mathlib.Omega.{arith}
 use mathlib.Core.Path.{sym, subst}
 use lib.Dec.{T}
 use Rattle.fillings.specs.Fillings.{Rule, Sound, last}
-use Rattle.fillings.specs.Tests.{TestsMet}
+use Rattle.fillings.specs.promises.Tests.{TestsMet}
 use Rattle.fillings.proofs.Reach.{Within, off-or-within, not-both, reach-trip, reach-clear}
 
 tests-within : (r : Rule) → Sound r → Within r → TestsMet r

@@ -20,7 +20,7 @@ use Rattle.states.specs.Steps.{settingOf}
 use Rattle.states.specs.Readings.{statusOf, statusIn}
 use Rattle.states.proofs.OneRule.{status-of-rule}
 use Rattle.first_ticks.proofs.FirstLaws.{noted-same}
-use Rattle.first_ticks.specs.Firsts.{none, noted, notedSeen, firstUnseen, notedUnseen}
+use Rattle.first_ticks.specs.inner.Firsts.{none, noted, notedSeen, firstUnseen, notedUnseen}
 
 noted-none : (x f : ℕ) → f ≡ none → noted x f ≡ x
 noted-none x f e = ap (λ (b : Bool). cond b x f) (eq-eqb f none e)

@@ -8,7 +8,7 @@ use mathlib.Core.Bool.{Bool, true, false, cond}
 use lib.Dec.{T, eqb}
 use borrow.Author.Tests.{ne-eqb, eqb-true}
 use Rattle.fillings.specs.Flags.{firstFrom}
-use Rattle.first_ticks.specs.Firsts.{none, noted}
+use Rattle.first_ticks.specs.inner.Firsts.{none, noted}
 
 -- A first tick once found stays.
 noted-found : (found first : ℕ) → first < none → noted found first ≡ first

@@ -16,7 +16,7 @@ use Rattle.fillings.specs.Fillings.{Rule, last, Shown, unseen}
 use Rattle.fillings.specs.PossibleStates.{has, anything, moves, next, start, possible}
 use Rattle.fillings.specs.Flags.{flag, statusFlag, isHeld, firstHeld}
 use Rattle.fillings.proofs.Next.{reached, by-restart}
-use Rattle.first_ticks.specs.Firsts.{none, noted}
+use Rattle.first_ticks.specs.inner.Firsts.{none, noted}
 use Rattle.first_ticks.proofs.FirstLaws.{first-snoc, first-kept, noted-same}
 
 held-some : (a b : Bool) → T (isHeld (flagOf a b)) → T a

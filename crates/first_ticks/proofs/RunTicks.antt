@@ -9,9 +9,9 @@ use Rattle.lists.specs.Lists.{someBelow}
 use Rattle.lists.proofs.Bools.{is-true, refuted, some-intro, some-elim}
 use Rattle.rules.specs.declared.Row.{Row}
 use Rattle.fillings.specs.Flags.{firstFrom}
-use Rattle.fillings.specs.Demand3.{evaluations}
+use Rattle.fillings.specs.promises.Demand3.{evaluations}
 use Rattle.fillings.proofs.Evaluations.{evaluations-every, evaluations-even}
-use Rattle.first_ticks.specs.Firsts.{none}
+use Rattle.first_ticks.specs.inner.Firsts.{none}
 use Rattle.first_ticks.proofs.Searches.{Found, is-found, is-missing, found, missing}
 
 -- The tick of evaluation j from tick first on; for none of them it is first itself.

@@ -6,7 +6,7 @@ use mathlib.Core.Logic.{⊎-elim}
 use native.Mathlib.Omega.{arith}
 use native.Mathlib.Nat.{eq-or-lt-of-le}
 use Rattle.fillings.specs.Flags.{firstFrom}
-use Rattle.first_ticks.specs.Firsts.{none}
+use Rattle.first_ticks.specs.inner.Firsts.{none}
 
 -- v is the first of the n numbers from a on at which the test holds.
 pub record Found (a n : ℕ) (test : ℕ → Bool) (v : ℕ) : Type 0 where

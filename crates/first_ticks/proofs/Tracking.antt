@@ -15,10 +15,10 @@ use Rattle.fillings.specs.Flags.{flagsOf, statusFlag, notClear, isHeld, firstFr
 use Rattle.fillings.proofs.Still.{possible-hole}
 use Rattle.states.specs.Steps.{settingOf, setOf, evaluationsOf}
 use Rattle.states.specs.Readings.{statusOf}
-use Rattle.states.specs.Tracking.{recordAt, ShortTimes}
+use Rattle.states.specs.promises.Tracking.{recordAt, ShortTimes}
 use Rattle.states.proofs.Tracking.{set-at}
-use Rattle.first_ticks.specs.Firsts.{none, noted, notedSeen, firstUnseen, notedUnseen}
-use Rattle.first_ticks.specs.Tracking.{possibleAt, heldAt, FirstsTracked}
+use Rattle.first_ticks.specs.inner.Firsts.{none, noted, notedSeen, firstUnseen, notedUnseen}
+use Rattle.first_ticks.specs.promises.Tracking.{possibleAt, heldAt, FirstsTracked}
 use Rattle.first_ticks.proofs.FirstLaws.{first-parts, first-snoc, first-same}
 use Rattle.first_ticks.proofs.HeldInHoles.{held-over-hole}
 

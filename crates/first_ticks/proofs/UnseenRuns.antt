@@ -13,7 +13,7 @@ use Rattle.rules.specs.Table.{rowAt}
 use Rattle.rules.specs.Evaluation.{top, status}
 use Rattle.fillings.specs.PossibleStates.{unseenTimes}
 use Rattle.fillings.specs.Flags.{flag, flagsOf, notClear, firstFrom}
-use Rattle.fillings.specs.Demand3.{evaluations}
+use Rattle.fillings.specs.promises.Demand3.{evaluations}
 use Rattle.states.specs.Records.{at, statesOf, ruleWords}
 use Rattle.states.specs.Steps.{setOf, evaluationsOf}
 use Rattle.states.specs.Readings.{allowed}
@@ -21,7 +21,7 @@ use Rattle.fillings.proofs.UnseenStates.{below-top}
 use Rattle.states.proofs.Moving.{has-states}
 use Rattle.states.proofs.OneRule.{allowed-state}
 use Rattle.states.proofs.Tops.{top-fits, top-pos}
-use Rattle.first_ticks.specs.Firsts.{none, firstUnseen}
+use Rattle.first_ticks.specs.inner.Firsts.{none, firstUnseen}
 use Rattle.first_ticks.proofs.Searches.{is-missing}
 use Rattle.first_ticks.proofs.Runs.{status-off, status-unseen}
 use Rattle.first_ticks.proofs.RunTicks.{tickAfter, tick-missing, tick-found, tick-until}

@@ -16,7 +16,7 @@ use Rattle.states.specs.Steps.{settingOf, afterSeenRule, afterSeen}
 use Rattle.states.specs.Readings.{statusIn}
 use Rattle.states.proofs.EachRule.{moving-start, moving-length}
 use Rattle.states.proofs.RuleSteps.{Seeing, seeing-next, seeing-done, seeing-end, rule-seen}
-use Rattle.first_ticks.specs.Firsts.{none, noted, notedSeen}
+use Rattle.first_ticks.specs.inner.Firsts.{none, noted, notedSeen}
 use Rattle.first_ticks.proofs.Entries.{Noting, noting-start, noting-next, seenEntry, entry-seen, seen-end}
 
 pub record Watching (ss : List Setting) (idle tick : ℕ) (r : Readings) (ws₀ ps₀ hs₀ ws ps hs : List ℕ) (i : ℕ) : Type 0 where

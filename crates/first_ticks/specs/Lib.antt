@@ -1,2 +1,2 @@
-pub mod Firsts
-pub mod Tracking
+pub mod inner
+pub mod promises

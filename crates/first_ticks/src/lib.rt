@@ -2,7 +2,7 @@
 ghost use mathlib.Core.Path.{_≡_};
 ghost use mathlib.Core.Bool.{cond};
 ghost use Rattle.fillings.specs.Flags.{notClear, isHeld};
-ghost use Rattle.first_ticks.specs.Firsts.{sized, allSized, notedSeen, notedUnseen};
+ghost use Rattle.first_ticks.specs.inner.Firsts.{sized, allSized, notedSeen, notedUnseen};
 ghost use Rattle.states.specs.Steps.{afterSeen};
 
 mod rule;

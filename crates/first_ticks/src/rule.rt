@@ -7,7 +7,7 @@ ghost use lib.ListN.{getD, length, set};
 ghost use Rattle.rules.specs.Table.{rowAt};
 ghost use Rattle.fillings.specs.Flags.{notClear, isHeld, firstFrom};
 ghost use Rattle.states.specs.Readings.{allowed};
-ghost use Rattle.first_ticks.specs.Firsts.{none, noted, firstUnseen};
+ghost use Rattle.first_ticks.specs.inner.Firsts.{none, noted, firstUnseen};
 use flags::Flag;
 use rules::Row;
 use rules::Setting;

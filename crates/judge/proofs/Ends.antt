@@ -11,12 +11,12 @@ use Rattle.report.specs.Layout.{reported}
 use Rattle.states.specs.Records.{fresh}
 use Rattle.states.specs.Readings.{allFlags}
 use Rattle.states.proofs.Tracking.{tracks}
-use Rattle.first_ticks.specs.Firsts.{none}
+use Rattle.first_ticks.specs.inner.Firsts.{none}
 use Rattle.fillings.specs.Flags.{flagsAt}
 use Rattle.demands.specs.Report.{firstsAt}
 use Rattle.verdicts.specs.declared.Tick.the-variants.{Unseen}
 use Rattle.walk.specs.Walk.{startOf}
-use Rattle.walk.specs.Places.{shows}
+use Rattle.walk.specs.inner.Places.{shows}
 use Rattle.judge.specs.declared.advance.Frame.{Frame}
 use Rattle.judge.specs.declared.replies.Point.{Point}
 use Rattle.judge.specs.inner.Walk.{configIn, alarmsOf, Known, At, AtPoint}

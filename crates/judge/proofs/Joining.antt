@@ -10,7 +10,7 @@ use Rattle.report.specs.declared.FirstTicks.{FirstTicks}
 use Rattle.fillings.specs.Fillings.{Shown, Config, ruleOf}
 use Rattle.fillings.specs.Flags.{firstPossible, firstHeld}
 use borrow.Author.Count.{below-more}
-use Rattle.first_ticks.specs.Tracking.{possibleAt, heldAt}
+use Rattle.first_ticks.specs.promises.Tracking.{possibleAt, heldAt}
 use Rattle.demands.specs.Report.{firstsAt}
 use Rattle.judge.specs.inner.Ending.{joined}
 

@@ -22,7 +22,7 @@ use Rattle.verdicts.specs.declared.Alarms.{Alarms}
 use Rattle.verdicts.specs.Verdicts.{verdictOf}
 use Rattle.demands.specs.Verdicts.{alarmsAt, verdictOn}
 use Rattle.judge.specs.declared.replies.Point.{Point}
-use Rattle.walk.specs.Places.{shows}
+use Rattle.walk.specs.inner.Places.{shows}
 use Rattle.judge.specs.declared.advance.Frame.{Frame}
 use Rattle.judge.specs.inner.Walk.{configIn, Known, AtPoint, Reached}
 

@@ -15,7 +15,7 @@ use Rattle.verdicts.specs.declared.Tick.{Tick}
 use Rattle.verdicts.specs.declared.Alarms.{Alarms}
 use Rattle.verdicts.specs.Verdicts.{verdictOf, verdictAnswer}
 use Rattle.demands.specs.Verdicts.{alarmsAt}
-use Rattle.walk.specs.Places.{shows}
+use Rattle.walk.specs.inner.Places.{shows}
 use Rattle.judge.specs.declared.advance.Frame.{Frame}
 use Rattle.judge.specs.declared.advance.Stop.{Stop}
 use Rattle.judge.specs.declared.replies.Point.{Point}

@@ -10,7 +10,7 @@ ghost use Rattle.ticks.specs.Traces.{traceOf};
 ghost use Rattle.fillings.specs.Flags.{flagsAt};
 ghost use Rattle.demands.specs.Report.{firstsAt, traceReport};
 ghost use Rattle.demands.specs.Verdicts.{verdictOn, traceVerdicts};
-ghost use Rattle.walk.specs.Places.{shows};
+ghost use Rattle.walk.specs.inner.Places.{shows};
 ghost use Rattle.judge.specs.inner.Walk.{configIn};
 ghost use Rattle.judge.specs.inner.Ending.{Parts, summed};
 use crate::advance::Frame;

@@ -10,7 +10,7 @@ ghost use Rattle.states.specs.Readings.{allFlags};
 ghost use Rattle.verdicts.specs.Verdicts.{verdictOf};
 ghost use Rattle.demands.specs.Verdicts.{verdictOn};
 ghost use Rattle.walk.specs.Walk.{startOf};
-ghost use Rattle.walk.specs.Places.{shows};
+ghost use Rattle.walk.specs.inner.Places.{shows};
 ghost use Rattle.judge.specs.inner.Walk.{configIn, alarmsOf, AtPoint, Reached, Known};
 use crate::advance::Frame;
 use crate::advance::Stop;

@@ -26,10 +26,10 @@ use Rattle.flags.specs.declared.RuleFlags.{RuleFlags}
 use Rattle.flags.specs.Outputs.{outputOf, drivers, statusesOf}
 use Rattle.rules.specs.Table.{rows}
 use Rattle.report.specs.declared.Totals.{Totals}
-use Rattle.states.specs.Tracking.{recordAt, ShortTimes}
+use Rattle.states.specs.promises.Tracking.{recordAt, ShortTimes}
 use Rattle.states.proofs.Tracking.{tracks}
 use Rattle.ticks.specs.Traces.{Trace, traceOf, shown, shownIn, Accepted}
-use Rattle.ticks.specs.Places.{NotYet, Place, done, hole, sample}
+use Rattle.ticks.specs.inner.Places.{NotYet, Place, done, hole, sample}
 use Rattle.ticks.proofs.Places.{place-start, none-before, shown-first}
 use Rattle.ticks.proofs.AcceptedBytes.{checks, accepted, short-times}
 use Rattle.ticks.proofs.CoveredOnce.{total-run, Same, same-later}
@@ -38,8 +38,8 @@ use Rattle.demands.proofs.TotalBounds.{Currents, currents}
 use Rattle.live.specs.declared.Live.{Live}
 use Rattle.live.specs.State.{good, begun, withSample, withHole}
 use Rattle.live.specs.Calls.{beginAnswer, beginState, sampleAnswer, sampleState, holeAnswer, holeState}
-use Rattle.live.specs.Promises.{Event, byTick, feed, feedAnswer, feedState, eventsOf, endOf, ReadsTrace, FedTrace}
-use Rattle.live.specs.Promises as events
+use Rattle.live.specs.promises.Promises.{Event, byTick, feed, feedAnswer, feedState, eventsOf, endOf, ReadsTrace, FedTrace}
+use Rattle.live.specs.promises.Promises as events
 use Rattle.live.proofs.Stepping.{as-rules, tick-next, hole-taken}
 use Rattle.live.proofs.StaysGood.{stays-good}
 

@@ -21,7 +21,7 @@ use Rattle.demands.proofs.TotalBounds.{in-most, out-most}
 use Rattle.live.specs.declared.Live.{Live}
 use Rattle.live.specs.State.{good, begun, withSample, withHole}
 use Rattle.live.specs.Calls.{beginAnswer, sampleAnswer, holeAnswer}
-use Rattle.live.specs.Promises.{StaysGood}
+use Rattle.live.specs.promises.Promises.{StaysGood}
 use Rattle.live.proofs.GoodStates.{GoodState, parts, whole, short, Counted, counted, counts}
 
 holds : (s : Live) → GoodState s → T (good s)

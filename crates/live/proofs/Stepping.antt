@@ -26,7 +26,7 @@ use Rattle.live.specs.declared.Step.{Step}
 use Rattle.live.specs.declared.Fed.the-variants.{Taken, Refused}
 use Rattle.live.specs.State.{good, begun, withSample, withHole}
 use Rattle.live.specs.Calls.{answerOfFed, beginAnswer, beginState, sampleAnswer, holeAnswer}
-use Rattle.live.specs.Steps.{Stepped, countSample, countHole}
+use Rattle.live.specs.inner.Steps.{Stepped, countSample, countHole}
 use Rattle.live.proofs.GoodStates.{parts}
 
 pub refuses : {r : Step} {why : Refusal} {a : Answer (Unit {0})} {new old : Live} → r ≡ record { answer = Refused why; state = old } → a ≡ refusal why → Stepped r a new old

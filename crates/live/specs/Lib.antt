@@ -1,4 +1,4 @@
 pub mod State
 pub mod Calls
-pub mod Steps
-pub mod Promises
+pub mod inner
+pub mod promises

@@ -7,7 +7,7 @@ ghost use Rattle.refusals.specs.Refusals.{answer, refused};
 ghost use Rattle.rules.specs.Samples.{sampleOf, Sample, readingsOf};
 ghost use Rattle.live.specs.State.{good, withSample, withHole};
 ghost use Rattle.live.specs.Calls.{sampleAnswer, holeAnswer};
-ghost use Rattle.live.specs.Steps.{Stepped, countSample, countHole};
+ghost use Rattle.live.specs.inner.Steps.{Stepped, countSample, countHole};
 use crate::Fed;
 use crate::Live;
 use crate::Step;

@@ -12,7 +12,7 @@ use Rattle.rules.specs.Samples.{Sample, cellCount, readingsOf}
 use Rattle.trace.specs.Records.{sampleWidth, stampedAt}
 use Rattle.samples.specs.declared.cells.Volts.{Volts}
 use Rattle.samples.specs.declared.cells.Temps.{Temps}
-use Rattle.samples.specs.Cells.{voltsOf, tempsOf}
+use Rattle.samples.specs.inner.Cells.{voltsOf, tempsOf}
 use Rattle.samples.specs.Answers.{readAtAnswer}
 
 pub readings-are : (x : Sample) {current board : ℤ} {v : Volts} {t : Temps} {r : Readings}

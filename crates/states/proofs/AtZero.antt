@@ -17,7 +17,7 @@ use Rattle.fillings.specs.PossibleStates.{has, Moves, found, next, start}
 use Rattle.fillings.specs.Flags.{flag}
 use Rattle.fillings.proofs.Next.{next-length, reached, by-restart}
 use Rattle.states.specs.Records.{at, statesOf, wordOf, wordsOf, ruleWords, recordWith}
-use Rattle.states.specs.Words.{Same}
+use Rattle.states.specs.inner.Words.{Same}
 use Rattle.states.proofs.Packing.{at-wordsOf, states-words, same-sets}
 use Rattle.states.proofs.SetFlags.{status-clear}
 use Rattle.states.proofs.RuleWords.{record-length, record-at}

@@ -16,7 +16,7 @@ use Rattle.fillings.specs.PossibleStates.{has}
 use Rattle.states.specs.Records.{at, Fit64, statesOf, ruleWords}
 use Rattle.states.specs.Steps.{settingOf, setOf}
 use Rattle.states.specs.Validity.{validSet, validRecord}
-use Rattle.states.specs.Tracking.{Determined}
+use Rattle.states.specs.promises.Tracking.{Determined}
 use Rattle.states.proofs.Packing.{same-words}
 use Rattle.states.proofs.RuleWords.{part, part-length}
 use Rattle.states.proofs.ValidWords.{above, none-at}

@@ -16,7 +16,7 @@ use lib.Bits.{bitOr}
 use Rattle.lists.specs.Lists.{someBelow}
 use Rattle.lists.proofs.Bools.{is-true, refuted, below?, equal?, some-intro, some-elim}
 use Rattle.states.specs.Records.{bit, at}
-use Rattle.states.specs.Words.{belowWord, Below, Up, Raised, With, withWord}
+use Rattle.states.specs.inner.Words.{belowWord, Below, Up, Raised, With, withWord}
 use Rattle.states.proofs.Bits.{bit-mod, bit-mod-above, bit-up, bit-up-first, bit-or, bit-pow-same, bit-pow-other, bit-some, bit-zero}
 
 -- word j of the words w a place up

@@ -12,7 +12,7 @@ use lib.ListN.{getD, length}
 use borrow.Author.Tests.{eq-eqb, ne-eqb, lt-ltb, le-ltb}
 use Rattle.lists.proofs.Bools.{below?}
 use Rattle.states.specs.Records.{bit}
-use Rattle.states.specs.Words.{Zeros}
+use Rattle.states.specs.inner.Words.{Zeros}
 use Rattle.states.specs.Readings.{allowed, failing, gapOf}
 use Rattle.states.proofs.Bits.{bit-zero, bit-mod, bit-mod-above, bit-shl, bit-shl-below, bit-top}
 use Rattle.states.proofs.OneRule.{allowed-word}

@@ -16,7 +16,7 @@ use Rattle.fillings.proofs.Next.{next-length}
 use Rattle.fillings.proofs.Still.{still}
 use Rattle.fillings.proofs.UnseenStates.{below-top, counted-up, top-within, first-states, unmoved-times}
 use Rattle.states.specs.Records.{at, Fit64, statesOf, wordsOf}
-use Rattle.states.specs.Words.{Below, With, Same, Filled}
+use Rattle.states.specs.inner.Words.{Below, With, Same, Filled}
 use Rattle.states.proofs.FiveWords.{at-none}
 use Rattle.states.proofs.Packing.{same-words, wordsOf-length, wordsOf-fit, at-wordsOf}
 use Rattle.states.proofs.Moving.{has-states, some-states}

@@ -15,7 +15,7 @@ use Rattle.lists.proofs.Bools.{and-left, and-right, both, bool-ext, below?, som
 use Rattle.fillings.specs.PossibleStates.{has, Moves, next}
 use Rattle.fillings.proofs.Next.{next-length, next-zero, next-between, next-top}
 use Rattle.states.specs.Records.{at, Fit64, statesOf, wordsOf}
-use Rattle.states.specs.Words.{Below, Raised, With}
+use Rattle.states.specs.inner.Words.{Below, Raised, With}
 use Rattle.states.proofs.Packing.{same-words, wordsOf-length, wordsOf-fit, at-wordsOf}
 
 pub has-states : (w : List ℕ) (m s : ℕ) → s ≤ m → has (statesOf w m) s ≡ at w s

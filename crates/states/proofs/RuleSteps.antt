@@ -13,7 +13,7 @@ use Rattle.rules.specs.declared.Readings.{Readings}
 use Rattle.rules.specs.Table.{rowAt}
 use Rattle.rules.specs.Evaluation.{trips, clears, top, evaluated}
 use Rattle.fillings.specs.PossibleStates.{found, next, unseenTimes}
-use Rattle.fillings.specs.Demand3.{evaluations}
+use Rattle.fillings.specs.promises.Demand3.{evaluations}
 use Rattle.states.specs.Records.{statesOf, wordsOf, ruleWords, recordWith}
 use Rattle.states.proofs.EachRule.{rule-moves, Moving, moving-read, moving-next, moving-done, moving-end}
 use Rattle.states.specs.Steps.{settingOf, movesBy, movesAt, seenBy, seenWords, afterSeenRule, afterSeen, evaluationsOf, movesBetween, unseenWords, afterUnseen}

@@ -20,7 +20,7 @@ use Rattle.flags.specs.Flags.{flagOf}
 use Rattle.fillings.specs.PossibleStates.{has}
 use Rattle.fillings.specs.Flags.{flag}
 use Rattle.states.specs.Records.{bit, at, statesOf}
-use Rattle.states.specs.Words.{Below, Alerting}
+use Rattle.states.specs.inner.Words.{Below, Alerting}
 use Rattle.states.proofs.Bits.{bit-double}
 use Rattle.states.proofs.Packing.{half, parity}
 use Rattle.states.proofs.Moving.{has-states, some-states}

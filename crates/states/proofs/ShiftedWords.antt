@@ -12,7 +12,7 @@ use lib.Bits.{bitOr}
 use borrow.Author.Tests.{lt-ltb, le-ltb}
 use Rattle.lists.proofs.Bools.{and-left, and-right, both, below?}
 use Rattle.states.specs.Records.{bit, at}
-use Rattle.states.specs.Words.{Same, wordUp, WordsUp, Joined, Filled}
+use Rattle.states.specs.inner.Words.{Same, wordUp, WordsUp, Joined, Filled}
 use Rattle.states.proofs.Bits.{bit-mod, bit-or, bit-shl, bit-shl-below, bit-shr, bit-past, bit-ones}
 use Rattle.states.proofs.Packing.{half}
 

@@ -7,7 +7,7 @@ use lib.Dec.{ltb}
 use borrow.Author.Tests.{lt-ltb}
 use Rattle.rules.specs.declared.Row.{Row}
 use Rattle.rules.specs.Evaluation.{top, evaluated}
-use Rattle.fillings.specs.Demand3.{evaluations}
+use Rattle.fillings.specs.promises.Demand3.{evaluations}
 use Rattle.fillings.proofs.Evaluations.{evaluations-every, evaluations-even}
 
 pub top-fits : (t : ℕ) → t < 256 → top t ≤ 256

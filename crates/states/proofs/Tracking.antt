@@ -16,12 +16,12 @@ use Rattle.rules.specs.Evaluation.{trips, clears, top, evaluated}
 use Rattle.fillings.specs.Fillings.{Rule, last, Shown, seen, unseen, Config, ruleOf}
 use Rattle.fillings.specs.PossibleStates.{Moves, found, moves, next, start, possible, unseenTimes}
 use Rattle.fillings.specs.Flags.{flagsOf, ruleFlags, flagsAt}
-use Rattle.fillings.specs.Demand3.{evaluations}
+use Rattle.fillings.specs.promises.Demand3.{evaluations}
 use Rattle.fillings.proofs.Still.{possible-length, possible-hole}
 use Rattle.states.specs.Records.{at, statesOf, wordsOf, ruleWords, recordWith, packed, fresh}
 use Rattle.states.specs.Steps.{settingOf, setOf, movesAt, seenWords, afterSeen, evaluationsOf, movesBetween, unseenWords, afterUnseen}
 use Rattle.states.specs.Readings.{allFlags}
-use Rattle.states.specs.Tracking.{recordAt, ShortTimes, Tracks}
+use Rattle.states.specs.promises.Tracking.{recordAt, ShortTimes, Tracks}
 use Rattle.states.proofs.Packing.{wordsOf-length, states-words}
 use Rattle.states.proofs.AtZero.{start-words}
 use Rattle.states.proofs.RuleWords.{record-length, record-at}

@@ -16,7 +16,7 @@ use Rattle.lists.proofs.Bools.{and-left, and-right, both, is-true, refuted, bot
 use Rattle.rules.specs.declared.Setting.{Setting}
 use Rattle.rules.specs.Evaluation.{top}
 use Rattle.states.specs.Records.{bit, at}
-use Rattle.states.specs.Words.{belowWord, Below}
+use Rattle.states.specs.inner.Words.{belowWord, Below}
 use Rattle.states.specs.Steps.{settingOf}
 use Rattle.states.specs.Validity.{validSet, validRecord}
 use Rattle.states.proofs.Packing.{same-bits}

@@ -1,6 +1,6 @@
 pub mod Records
-pub mod Words
 pub mod Steps
 pub mod Readings
 pub mod Validity
-pub mod Tracking
+pub mod inner
+pub mod promises

@@ -11,7 +11,7 @@ use Rattle.rules.specs.Table.{rowAt}
 use Rattle.limits.specs.Limits.{off}
 use Rattle.rules.specs.Evaluation.{trips, clears, top, evaluated}
 use Rattle.fillings.specs.PossibleStates.{found, next, unseenTimes}
-use Rattle.fillings.specs.Demand3.{evaluations}
+use Rattle.fillings.specs.promises.Demand3.{evaluations}
 use Rattle.states.specs.Records.{statesOf, wordsOf, ruleWords, recordWith}
 
 -- The setting of rule i.

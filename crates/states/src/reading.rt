@@ -6,7 +6,7 @@ ghost use Rattle.rules.specs.Table.{rowAt};
 ghost use Rattle.rules.specs.Evaluation.{top};
 ghost use Rattle.fillings.specs.Flags.{flagsOf};
 ghost use Rattle.states.specs.Steps.{setOf};
-ghost use Rattle.states.specs.Words.{Zeros};
+ghost use Rattle.states.specs.inner.Words.{Zeros};
 ghost use Rattle.states.specs.Readings.{allFlags, statusIn, allowed, gapOf};
 use crate::record::load;
 use crate::words::alert_of;

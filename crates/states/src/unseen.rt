@@ -5,7 +5,7 @@ ghost use Prim.Native.Nat.{suc, _<_};
 ghost use lib.Dec.{eqb};
 ghost use lib.ListN.{length};
 ghost use Rattle.rules.specs.Table.{rowAt};
-ghost use Rattle.fillings.specs.Demand3.{evaluations};
+ghost use Rattle.fillings.specs.promises.Demand3.{evaluations};
 ghost use Rattle.states.specs.Records.{recordWith};
 ghost use Rattle.states.specs.Steps.{movesBetween, unseenWords, afterUnseen};
 use crate::record::load;

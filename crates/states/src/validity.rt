@@ -3,7 +3,7 @@ ghost use mathlib.Core.Path.{_≡_};
 ghost use Prim.Native.Nat.{_<_};
 ghost use lib.Dec.{eqb};
 ghost use lib.ListN.{length};
-ghost use Rattle.states.specs.Words.{belowWord};
+ghost use Rattle.states.specs.inner.Words.{belowWord};
 ghost use Rattle.states.specs.Validity.{validSet, validRecord};
 use crate::words::below_word;
 use crate::words::top_for;

@@ -8,7 +8,7 @@ ghost use Rattle.fillings.specs.PossibleStates.{found, next, start, unseenTimes
 ghost use Rattle.rules.specs.Evaluation.{top, alert, status};
 ghost use Rattle.fillings.specs.Flags.{flag};
 ghost use Rattle.states.specs.Records.{at, statesOf, wordsOf};
-ghost use Rattle.states.specs.Words.{belowWord, withWord, Below, Up, Raised, With, Alerting, Same, WordsUp, Joined, Filled};
+ghost use Rattle.states.specs.inner.Words.{belowWord, withWord, Below, Up, Raised, With, Alerting, Same, WordsUp, Joined, Filled};
 use flags::Flag;
 
 const HALF: u64 = 9223372036854775808;

@@ -12,9 +12,9 @@ use Rattle.lists.proofs.Bools.{by-order}
 use Rattle.trace.specs.Records.{Hole, Stamped}
 use Rattle.fillings.specs.Charge.{inward, outward, ofSeen, ofUnseen, total}
 use Rattle.ticks.specs.Traces.{Trace, traceOf, shownIn, hasSample, inHole, Accepted}
-use Rattle.ticks.specs.Promises.{overSamples, overHoles, CoveredOnce, MissingSecond}
+use Rattle.ticks.specs.promises.Promises.{overSamples, overHoles, CoveredOnce, MissingSecond}
 use Rattle.ticks.proofs.AscendingHoles.{Ascending, ascending, none-in-holes}
-use Rattle.ticks.specs.Places.{Place, done, hole, sample}
+use Rattle.ticks.specs.inner.Places.{Place, done, hole, sample}
 use Rattle.ticks.proofs.Places.{place-start, place-low, none-before, no-sample-before, ascends-later, shown-first, shown-later}
 use Rattle.ticks.proofs.AcceptedBytes.{accepted}
 

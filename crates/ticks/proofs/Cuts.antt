@@ -15,9 +15,9 @@ use Rattle.trace.specs.Coverage.{holeNext, sampleNext, coverAnswer, repliesAnsw
 use Rattle.refusals.proofs.Answers.{unless}
 use Rattle.ticks.specs.Traces.{Trace, shownIn, hasSample, Accepted}
 use Rattle.ticks.specs.Cut.{cutHoles, cutReplies, cutSamples, cutAt}
-use Rattle.ticks.specs.Promises.{CutHolds}
+use Rattle.ticks.specs.promises.Promises.{CutHolds}
 use Rattle.ticks.proofs.AscendingHoles.{Ascending, ascending, in-order, lower}
-use Rattle.ticks.specs.Places.{NotYet, Place, done, hole, sample}
+use Rattle.ticks.specs.inner.Places.{NotYet, Place, done, hole, sample}
 use Rattle.ticks.proofs.Places.{place-low, place-start, no-sample-before, not-yet, ascends-later}
 
 cut-ascends : (t : ℕ) (hs : List Hole) (low : ℕ) → Ascending low hs → Ascending low (cutHoles t hs)

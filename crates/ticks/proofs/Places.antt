@@ -14,7 +14,7 @@ use Rattle.trace.specs.Coverage.{holeNext, afterHole, sampleNext, rest, taking,
 use Rattle.refusals.proofs.Answers.{clash, unless}
 use Rattle.fillings.specs.Fillings.{seen, unseen}
 use Rattle.ticks.specs.Traces.{Trace, shownIn, hasSample, Accepted}
-use Rattle.ticks.specs.Places.{NotYet, Place, done, hole, sample}
+use Rattle.ticks.specs.inner.Places.{NotYet, Place, done, hole, sample}
 use Rattle.ticks.proofs.AscendingHoles.{Ascending, ascending, lower}
 
 pub place-low : {m : ℕ} (hs : List Hole) (xs : List Stamped) (e : ℕ) → Place m hs xs e → e ≤ m

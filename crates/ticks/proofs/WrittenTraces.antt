@@ -15,7 +15,7 @@ use Rattle.trace.proofs.Outcomes as outcomes
 use Rattle.trace.proofs.WrittenSections.{SameStart, same-start, layoutWritten, starts, written-reads}
 use Rattle.fillings.specs.Fillings.{Config}
 use Rattle.ticks.specs.Traces.{traceOf, Accepted}
-use Rattle.ticks.specs.Promises.{writtenTrace, WrittenTrace}
+use Rattle.ticks.specs.promises.Promises.{writtenTrace, WrittenTrace}
 use Rattle.ticks.proofs.AcceptedBytes.{Checks}
 
 -- What the three checks of the records answer of accepted records.

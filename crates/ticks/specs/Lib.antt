@@ -1,4 +1,4 @@
 pub mod Traces
 pub mod Cut
-pub mod Promises
-pub mod Places
+pub mod inner
+pub mod promises

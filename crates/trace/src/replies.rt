@@ -6,7 +6,7 @@ ghost use lib.ListN.{length};
 ghost use lib.Dec.{ltb, leb};
 ghost use Rattle.trace.specs.Records.{repliesIn};
 ghost use Rattle.trace.specs.Coverage.{repliesAnswer};
-ghost use Rattle.trace.specs.Checks.{answerOfChecked};
+ghost use Rattle.trace.specs.inner.Checks.{answerOfChecked};
 use crate::coverage::tick_at;
 use crate::sections::Checked;
 use refusals::Refusal;

@@ -14,13 +14,13 @@ use Rattle.bytes_le.proofs.Spaced.{spaced-next}
 use Rattle.trace.proofs.CoverTurns.{peel}
 use Rattle.fillings.specs.Fillings.{seen, unseen}
 use Rattle.ticks.specs.Traces.{shownIn}
-use Rattle.ticks.specs.Places.{Place, NotYet}
+use Rattle.ticks.specs.inner.Places.{Place, NotYet}
 use Rattle.ticks.proofs.Places.{place-low, in-hole, hole-stays, no-sample, at-sample}
 use Rattle.walk.specs.declared.Cursor.{Cursor}
 use Rattle.walk.specs.declared.Ahead.{Ahead}
 use Rattle.walk.specs.declared.Ahead.the-variants.{Unseen, Sample, End}
 use Rattle.walk.specs.Walk.{holeHere, pastRun, pastSample, ahead}
-use Rattle.walk.specs.Places.{shows, Stands, Missed, Passed}
+use Rattle.walk.specs.inner.Places.{shows, Stands, Missed, Passed}
 use Rattle.walk.proofs.Looking.{hole-holds, at-the-end, unseen-ahead, sample-ahead, none-ahead}
 
 -- The three things that can come next, each with its tests.

@@ -17,7 +17,7 @@ use Rattle.ticks.specs.Traces.{traceOf}
 use Rattle.ticks.proofs.AcceptedBytes.{accepted, checks}
 use Rattle.ticks.proofs.Places.{place-start}
 use Rattle.walk.specs.Walk.{startOf}
-use Rattle.walk.specs.Places.{Stands}
+use Rattle.walk.specs.inner.Places.{Stands}
 
 module _ (s : List ℕ) (w : Parsed) (h : acceptAnswer s ≡ answer w) where
   abbrev l : Layout

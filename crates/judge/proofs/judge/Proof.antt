@@ -18,7 +18,7 @@ enum-known-why : tie.Need-enum-known-why
 enum-known-why c = search needs
 
 returns : tie.Need-returns
-returns c = 
+returns c =
     let a = c .before .before .before .before .before .before .before .args in
     left-by-buffers (a .s .now) (a .report .now) (a .verdicts .now) (λ w. traceReport (traceOf (a .s .now) w)) (λ w. traceVerdicts (traceOf (a .s .now) w)) (sym (ap answerOfJudged (c .before .why .given .1)) ∙ c .before .before .before .check-buffers .ensures)
 
@@ -35,7 +35,7 @@ enum-known-answer-2 : tie.Need-enum-known-answer-2
 enum-known-answer-2 c = search needs
 
 judge-accepted-requires : tie.Need-judge-accepted-requires
-judge-accepted-requires c κs = 
+judge-accepted-requires c κs =
     let a = c .before .before .before .before .before .before .before .before .before .before .before .before .before .before .args in
     let fits = sym (ap answerOfJudged (c .before .before .before .before .before .before .before .before .enum-told .given .1)) ∙ c .before .before .before .before .before .before .before .before .before .before .check-buffers .ensures in
     let e = c .before .before .before .before .before .before .before .accept .ensures in
@@ -44,7 +44,7 @@ judge-accepted-requires c κs =
     (whole, f .long, f .counted ∙ same-count (a .s .now) (f .walked) whole)
 
 returns-2 : tie.Need-returns-2
-returns-2 c = 
+returns-2 c =
     let a = c .before .before .before .before .before .before .before .before .before .before .args in
     let fits = sym (ap answerOfJudged (c .before .before .before .before .enum-told .given .1)) ∙ c .before .before .before .before .before .before .check-buffers .ensures in
     left-by-trace (a .s .now) (a .report .now) (a .verdicts .now) (λ w. traceReport (traceOf (a .s .now) w)) (λ w. traceVerdicts (traceOf (a .s .now) w)) fits (sym (ap answerOfAccept (c .before .answer .given .1)) ∙ c .before .before .before .accept .ensures .0)
@@ -56,7 +56,7 @@ same-length-2 : tie.Need-same-length-2
 same-length-2 c = search needs
 
 returns-3 : tie.Need-returns-3
-returns-3 c = 
+returns-3 c =
     let a = c .before .before .before .before .before .before .before .before .before .before .before .before .before .before .before .before .before .before .before .args in
     let fits = sym (ap answerOfJudged (c .before .before .before .before .before .before .before .before .before .before .before .before .before .enum-told .given .1)) ∙ c .before .before .before .before .before .before .before .before .before .before .before .before .before .before .before .check-buffers .ensures in
     let e = c .before .before .before .before .before .before .before .before .before .before .before .before .accept .ensures in

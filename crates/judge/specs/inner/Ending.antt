@@ -12,7 +12,7 @@ use Rattle.report.specs.declared.Totals.{Totals}
 use Rattle.fillings.specs.Charge.{inward, outward}
 use Rattle.totals.specs.Totals.{chargeSum, unseenSum}
 use Rattle.walk.specs.Walk.{startOf}
-use Rattle.walk.specs.Places.{Stands}
+use Rattle.walk.specs.inner.Places.{Stands}
 use Rattle.judge.specs.declared.advance.Frame.{Frame}
 use Rattle.judge.specs.inner.Walk.{Ready}
 

@@ -3,7 +3,7 @@ use native.Mathlib.Omega.{arith}
 use denote.Ref.{now}
 use Rattle.refusals.specs.Refusals.{answer}
 use Rattle.trace.specs.Sections.{headAnswer, sectionAnswer}
-use Rattle.trace.specs.Checks.{answerOfChecked, answerOfSection}
+use Rattle.trace.specs.inner.Checks.{answerOfChecked, answerOfSection}
 use Rattle.trace.specs.declared.sections.Sectioned.the-variants.{At}
 use Rattle.trace.proofs.Layouts.{Begun, rules-long, section-is}
 use Rattle.trace.proofs.Walks.{no-head, no-rules, no-holes, no-replies, no-samples, left-over, whole}

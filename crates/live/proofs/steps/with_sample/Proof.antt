@@ -1,7 +1,7 @@
 use mathlib.Core.Path.{ap, _∙_}
 use mir.Syntax.{w16}
 use mir.ValLaws.{toZ-ofZ}
-use Rattle.live.specs.Steps.{countSample}
+use Rattle.live.specs.inner.Steps.{countSample}
 use native.Mathlib.Omega.{arith}
 use Rattle.live.proofs.GoodStates.{parts, counted}
 use Rattle.live.proofs.Stepping.{sample-state}

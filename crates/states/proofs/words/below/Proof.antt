@@ -1,7 +1,7 @@
 use Prim.Native.Nat.{_-_}
 use native.Mathlib.Omega.{arith}
 use borrow.Author.Needs.{needs}
-use Rattle.states.specs.Words.{belowWord}
+use Rattle.states.specs.inner.Words.{belowWord}
 use Rattle.states.proofs.FiveWords.{Changed, changed-start, changed-next, changed-end, below-bits}
 use Rattle.states.proofs.words.below.Statement.{statement}
 use Rattle.states.proofs.words.below.Tie as tie

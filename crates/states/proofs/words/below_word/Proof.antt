@@ -2,7 +2,7 @@ use Prim.Native.Nat.{_%_}
 use native.Mathlib.Omega.{arith}
 use lib.Pow.{pow-pos}
 use borrow.Author.Tests.{lt-ltb, le-ltb, eq-eqb, ne-eqb}
-use Rattle.states.specs.Words.{belowWord}
+use Rattle.states.specs.inner.Words.{belowWord}
 use Rattle.states.proofs.Bits.{one-shifted}
 use borrow.Author.Needs.{needs}
 use Rattle.states.proofs.words.below_word.Statement.{statement}

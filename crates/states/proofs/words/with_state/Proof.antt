@@ -1,7 +1,7 @@
 use Prim.Native.Nat.{_-_}
 use native.Mathlib.Omega.{arith}
 use borrow.Author.Needs.{needs}
-use Rattle.states.specs.Words.{withWord}
+use Rattle.states.specs.inner.Words.{withWord}
 use Rattle.states.proofs.FiveWords.{Changed, changed-start, changed-next, changed-end, with-bits}
 use Rattle.states.proofs.words.with_state.Statement.{statement}
 use Rattle.states.proofs.words.with_state.Tie as tie

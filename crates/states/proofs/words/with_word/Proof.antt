@@ -3,7 +3,7 @@ use native.Mathlib.Omega.{arith}
 use borrow.Author.Needs.{needs}
 use borrow.Author.Tests.{eq-eqb, ne-eqb}
 use mathlib.Core.Bool.{and-false}
-use Rattle.states.specs.Words.{withWord}
+use Rattle.states.specs.inner.Words.{withWord}
 use Rattle.states.proofs.Bits.{one-shifted}
 use Rattle.states.proofs.words.with_word.Statement.{statement}
 use Rattle.states.proofs.words.with_word.Tie as tie

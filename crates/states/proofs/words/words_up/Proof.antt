@@ -3,7 +3,7 @@ use mathlib.Core.Path.{_≡_, refl, subst}
 use native.Mathlib.Omega.{arith}
 use borrow.Author.Needs.{needs}
 use lib.ListN.{length}
-use Rattle.states.specs.Words.{WordsUp}
+use Rattle.states.specs.inner.Words.{WordsUp}
 use Rattle.states.proofs.ShiftedWords.{words-up-start, words-up-next}
 use Rattle.states.proofs.words.words_up.Statement.{statement}
 use Rattle.states.proofs.words.words_up.Tie as tie

@@ -6,7 +6,7 @@ use Rattle.refusals.specs.Refusals.{answer}
 use Rattle.trace.specs.Records.{holesIn}
 use Rattle.trace.specs.Sections.{holesPart}
 use Rattle.trace.specs.Coverage.{holesAnswer}
-use Rattle.trace.specs.Checks.{answerOfChecked, answerOfCover}
+use Rattle.trace.specs.inner.Checks.{answerOfChecked, answerOfCover}
 use Rattle.trace.proofs.Layouts.{parts-are, holes-start, replies-start, few-holes, few-replies}
 use Rattle.trace.proofs.TickBounds.{gap-small, ticks-small}
 use borrow.Author.Needs.{needs}

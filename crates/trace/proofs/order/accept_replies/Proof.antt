@@ -1,5 +1,5 @@
 use mathlib.Core.Path.{sym, _∙_, ap}
-use Rattle.trace.specs.Checks.{answerOfChecked}
+use Rattle.trace.specs.inner.Checks.{answerOfChecked}
 use borrow.Author.Needs.{needs}
 use Rattle.trace.proofs.order.accept_replies.Statement.{statement}
 use Rattle.trace.proofs.order.accept_replies.Tie as tie

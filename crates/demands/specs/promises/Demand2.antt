@@ -22,9 +22,9 @@ use Rattle.trace.specs.Records.{Reply, Stamped}
 use Rattle.trace.specs.Acceptance.{Parsed, acceptAnswer}
 use Rattle.fillings.specs.Fillings.{Rule, last, evaluate}
 use Rattle.fillings.specs.Charge.{inward, outward}
-use Rattle.fillings.specs.Demand3.{First}
+use Rattle.fillings.specs.promises.Demand3.{First}
 use Rattle.ticks.specs.Traces.{Trace, traceOf, shown}
-use Rattle.ticks.specs.Promises.{overSamples, overHoles}
+use Rattle.ticks.specs.promises.Promises.{overSamples, overHoles}
 use Rattle.demands.specs.Report.{traceReport}
 use Rattle.demands.specs.Verdicts.{tickOf, traceVerdicts}
 use Rattle.demands.specs.Reading.{byteAt, alertAt, statusAt, possibleFrom, heldFrom, ruleIn, stateUnder}

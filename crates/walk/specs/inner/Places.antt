@@ -6,7 +6,7 @@ use lib.ListN.{length}
 use Rattle.trace.specs.Records.{holesFrom, samplesFrom, samplesIn, sampleWidth, stampedAt}
 use Rattle.fillings.specs.Fillings.{Shown, seen, unseen}
 use Rattle.ticks.specs.Traces.{shownIn}
-use Rattle.ticks.specs.Places.{Place}
+use Rattle.ticks.specs.inner.Places.{Place}
 use Rattle.walk.specs.declared.Cursor.{Cursor}
 
 -- What the samples of n cells in their part of a trace show.

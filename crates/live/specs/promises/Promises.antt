@@ -11,7 +11,7 @@ use Rattle.trace.specs.Records.{Hole, Stamped}
 use Rattle.trace.specs.Sections.{rulesPart}
 use Rattle.trace.specs.Acceptance.{Parsed, acceptAnswer}
 use Rattle.states.specs.Readings.{allFlags}
-use Rattle.states.specs.Tracking.{recordAt}
+use Rattle.states.specs.promises.Tracking.{recordAt}
 use Rattle.flags.specs.declared.Output.{Output}
 use Rattle.flags.specs.Outputs.{drivers}
 use Rattle.fillings.specs.Fillings.{Config}

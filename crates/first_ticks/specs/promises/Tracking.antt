@@ -5,8 +5,8 @@ use mathlib.Core.List.{List}
 use Rattle.lists.specs.Lists.{tabulate}
 use Rattle.fillings.specs.Fillings.{Shown, unseen, Config, ruleOf}
 use Rattle.fillings.specs.Flags.{notClear, isHeld, firstPossible, firstHeld}
-use Rattle.states.specs.Tracking.{recordAt}
-use Rattle.first_ticks.specs.Firsts.{none, notedSeen, notedUnseen}
+use Rattle.states.specs.promises.Tracking.{recordAt}
+use Rattle.first_ticks.specs.inner.Firsts.{none, notedSeen, notedUnseen}
 
 -- The first ticks of sixteen rules at which status is held or unknown, among the first k ticks.
 abbrev pub possibleAt : Config → (ℕ → Shown) → ℕ → List ℕ

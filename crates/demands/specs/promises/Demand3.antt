@@ -19,7 +19,7 @@ use Rattle.flags.specs.Outputs.{drivers}
 use Rattle.fillings.specs.Fillings.{last, seen}
 use Rattle.fillings.specs.Outputs.{output, active}
 use Rattle.fillings.specs.Charge.{netCharge, leastCharge, greatestCharge}
-use Rattle.fillings.specs.Demand3.{First, evaluations, Tripping}
+use Rattle.fillings.specs.promises.Demand3.{First, evaluations, Tripping}
 use Rattle.trace.specs.Acceptance.{Parsed, acceptAnswer}
 use Rattle.ticks.specs.Traces.{Trace, traceOf, shown, inHole}
 use Rattle.ticks.specs.Cut.{cutAt}
