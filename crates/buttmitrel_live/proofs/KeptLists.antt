@@ -1,15 +1,14 @@
 -- Lists that a caller keeps: copied, loaded as a state, and stored back.
 use Prim.Native.Nat.{ℕ, _+_, _≤_, _<_}
-use mathlib.Core.Path.{_≡_, refl, sym, ap, ap₂, _∙_}
+use mathlib.Core.Path.{_≡_, refl, sym, ap, ap₂, _∙_, subst}
 use mathlib.Core.Bool.{Bool, true, false, cond, _&&_}
 use mathlib.Core.List.{List, [], _∷_}
 use native.Mathlib.Omega.{arith}
-use lib.Dec.{leb, eqb}
+use lib.Dec.{T, leb, eqb}
 use lib.ListN.{length, getD, set, length-set}
 use lib.Seq.{getD-set-same, getD-set-other, ext-getD}
 use borrow.Author.Tests.{eq-eqb, ne-eqb, eqb-true, le-leb, lt-leb, leb-true}
 use borrow.Author.Count.{below-more}
-use Rattle.lists.specs.Lists.{everyBelow}
 use Rattle.lists.proofs.Bools.{both-true}
 use Rattle.refusals.specs.declared.Refusal.{Refusal}
 use Rattle.refusals.specs.Refusals.{answer, refused, passes}
@@ -18,8 +17,7 @@ use Rattle.rules.specs.Table.{rows}
 use Rattle.limits.specs.Limits.{limitsAnswer, settingsOf}
 use Rattle.report.specs.declared.Totals.{Totals}
 use Rattle.states.specs.declared.States.{States}
-use Rattle.states.specs.Validity.{validRecord, validSet}
-use Rattle.states.specs.Steps.{settingOf}
+use Rattle.states.proofs.ValidWords.{valid-long}
 use Rattle.live.specs.declared.Live.{Live}
 use Rattle.live.specs.declared.Step.{Step}
 use Rattle.live.specs.declared.Fed.the-variants.{Taken, Refused}
@@ -142,10 +140,6 @@ module _ (n idle : ℕ) (rules words totals : List ℕ) where
   pub unloaded : (why : Refusal) (old : Live) {number place : ℕ} → beginAnswer n idle rules ≡ refused number place → Loaded (record { answer = Refused why; state = old }) rules words totals (stateOf n idle rules words totals)
   unloaded why old e = record { kept = λ q. let z : _≡_ {A = ℕ} 0 1 = cc in absurd (omega arith); unkept = λ w q. unbegun e }
 
-  valid-long : (ss : _) → validRecord ss words ≡ true → length words ≡ 80
-  unfolding validRecord
-  valid-long ss h = eqb-true (length words) 80 (both-true (eqb (length words) 80) (everyBelow 16 (λ i. validSet (settingOf ss i) i words)) h .0)
-
   pub loaded : {r : Step} {st : Live} → beginAnswer n idle rules ≡ answer tt → st ≡ beginState n idle rules → Filled r st words totals → Loaded r rules words totals (stateOf n idle rules words totals)
   loaded {r} {st} e f g =
       let b : st ≡ begun n idle (settingsOf rules) = rw e at f in
@@ -158,7 +152,7 @@ module _ (n idle : ℕ) (rules words totals : List ℕ) where
         );
         unkept = λ why q. not-so (isKept rules totals && good (stateOf n idle rules words totals)) (λ h.
             let (k, i) = both-true (isKept rules totals) (good (stateOf n idle rules words totals)) h in
-            let l : length words ≡ 80 = valid-long (settingsOf rules) (parts (stateOf n idle rules words totals) i .states) in
+            let l : length words ≡ 80 = valid-long (settingsOf rules) words (subst T (sym (parts (stateOf n idle rules words totals) i .states)) tt) in
             let t : areTotals totals ≡ true = kept-tests totals rules k .1 in
             let a : (eqb (length words) 80 && areTotals totals) ≡ true = rw (eq-eqb (length words) 80 l, t) in
             let x : false ≡ true = sym (g .unfull why q) ∙ a in

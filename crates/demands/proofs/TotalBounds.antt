@@ -3,7 +3,7 @@ use Prim.Native.Nat.{ℕ, zero, suc, _+_, _*_, _≤_, _<_}
 use mathlib.Core.Bool.{Bool, true, false, cond}
 use mathlib.Core.List.{List, [], _∷_}
 use native.Mathlib.Omega.{arith}
-use lib.IntN.{ℤ, pos, negsuc}
+use lib.IntN.{ℤ}
 use lib.Dec.{eqb}
 use lib.ListN.{length}
 use Rattle.lists.specs.Lists.{Every}
@@ -13,8 +13,9 @@ use Rattle.rules.specs.Samples.{I16}
 use Rattle.trace.specs.Records.{Stamped, stampedAt, samplesFrom, sampleWidth}
 use Rattle.trace.proofs.SampleBytes.{every-spaced}
 use Rattle.trace.proofs.TickBounds.{ticks-small}
-use Rattle.fillings.specs.Fillings.{Shown, seen, unseen}
-use Rattle.fillings.specs.Charge.{inward, outward, ofSeen, ofUnseen, total, chargeIn, chargeOut, unseenTicks}
+use Rattle.fillings.specs.Fillings.{seen}
+use Rattle.fillings.specs.Charge.{inward, outward, ofSeen, total, chargeIn, chargeOut, unseenTicks}
+use Rattle.fillings.proofs.Charge.{in-most, out-most, unseen-most}
 use Rattle.ticks.specs.Traces.{Trace, shown, shownIn, Accepted}
 
 pub ticks-fit : (tr : Trace) → Accepted tr → tr .ticks ≤ 0xFFFFFFFF
@@ -26,14 +27,10 @@ unfolding total
 total-most g b zero h = omega arith
 total-most g b (suc k) h = let l = total-most g b k h in omega (arith, h k)
 
-unseen-one : (w : Shown) → ofUnseen w ≤ 1
-unseen-one (seen x) = omega arith
-unseen-one unseen = omega arith
-
 pub unseen-fit : (tr : Trace) → Accepted tr → unseenTicks (shown tr) (tr .ticks) < 4294967296
 unseen-fit tr ok =
     let l = ticks-fit tr ok in
-    omega (arith, total-most (λ t. ofUnseen (shown tr t)) 1 (tr .ticks) (λ t. unseen-one (shown tr t)))
+    omega (arith, unseen-most (shown tr) (tr .ticks))
 
 -- The current of every sample is an i16.
 abbrev pub Currents : List Stamped → Type 0
@@ -41,14 +38,6 @@ Currents xs = Every (λ x. I16 (x .sample .current)) xs
 
 pub currents : (n : ℕ) (s : List ℕ) (k at : ℕ) → Currents (samplesFrom n s k at)
 currents n s k at = every-spaced (λ x. I16 (x .sample .current)) (stampedAt n s) (sampleWidth n) (λ x. signed-small (u16At s (x + 4))) k at
-
-pub in-most : (z : ℤ) → I16 z → inward z ≤ 32768
-in-most (pos k) h = omega arith
-in-most (negsuc k) h = omega arith
-
-pub out-most : (z : ℤ) → I16 z → outward z ≤ 32768
-out-most (pos k) h = omega arith
-out-most (negsuc k) h = omega arith
 
 -- A number of the current of a shown sample.
 of-seen-most : (f : ℤ → ℕ) → ((z : ℤ) → I16 z → f z ≤ 32768) → (xs : List Stamped) → Currents xs → (t : ℕ) → ofSeen (λ x. f (x .current)) (shownIn xs t) ≤ 32768

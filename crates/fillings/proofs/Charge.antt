@@ -1,5 +1,5 @@
 -- The net charge lies between its bounds under every filling, and reaches both.
-use Prim.Native.Nat.{ℕ, zero, suc, _*_}
+use Prim.Native.Nat.{ℕ, zero, suc, _*_, _≤_}
 use native.Mathlib.Omega.{arith}
 use native.Mathlib.Nat.{mul-add}
 use mathlib.Core.Path.{_≡_, refl, sym, ap, ap₂, _∙_, subst}
@@ -12,6 +12,24 @@ use Rattle.fillings.specs.Charge.{inward, outward, ofSeen, ofUnseen, tot
 use Rattle.fillings.specs.promises.Demand3.{ChargeBounded}
 use Rattle.fillings.proofs.Integers.{le-self, add-swap, sub-swap, add-le}
 use Rattle.fillings.proofs.Witness.{drawing, drawing-carried}
+
+-- A current is at most 32,768 either way, and at most every tick is unseen.
+pub in-most : (z : ℤ) → I16 z → inward z ≤ 32768
+in-most (pos k) h = omega arith
+in-most (negsuc k) h = omega arith
+
+pub out-most : (z : ℤ) → I16 z → outward z ≤ 32768
+out-most (pos k) h = omega arith
+out-most (negsuc k) h = omega arith
+
+unseen-one : (w : Shown) → ofUnseen w ≤ 1
+unseen-one (seen x) = omega arith
+unseen-one unseen = omega arith
+
+pub unseen-most : (trace : ℕ → Shown) (k : ℕ) → unseenTicks trace k ≤ k
+unfolding total
+unseen-most trace zero = omega arith
+unseen-most trace (suc k) = omega (arith, unseen-most trace k, unseen-one (trace k))
 
 -- what a tick is sure to charge, and the least and the greatest that it may
 abbrev sure : Shown → ℤ

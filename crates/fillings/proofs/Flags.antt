@@ -35,14 +35,10 @@ unknown-both true true e = (tt, tt)
 unknown-both true false e = let z : _≡_ {A = ℕ} 0 1 = cc in absurd (omega arith)
 unknown-both false b e = let z : _≡_ {A = ℕ} 0 1 = cc in absurd (omega arith)
 
-not-clear-meets : (a b : Bool) → T (notClear (flagOf a b)) → T a
-not-clear-meets true b t = tt
-not-clear-meets false b t = t
-
-meets-not-clear : (a b : Bool) → T a → T (notClear (flagOf a b))
-meets-not-clear true true t = tt
-meets-not-clear true false t = tt
-meets-not-clear false b t = t
+pub flag-not-clear : (a b : Bool) → notClear (flagOf a b) ≡ a
+flag-not-clear true true = refl
+flag-not-clear true false = refl
+flag-not-clear false b = refl
 
 is-held-held : (f : Flag) → T (isHeld f) → f ≡ Held
 is-held-held Clear t = absurd t
@@ -139,8 +135,8 @@ module _ (r : Rule) (ok : Sound r) (trace : ℕ → Shown) (k : ℕ) where
   not-clear-exactly : (test : ℕ → Bool) → T (notClear (flag (last r) test (possible r trace k))) ↔ Sometimes r trace k test
   unfolding flag
   not-clear-exactly test = (
-    (λ t. meets-some test (not-clear-meets (met test) (met (λ s. not (test s))) t)),
-    (λ w. meets-not-clear (met test) (met (λ s. not (test s))) (some-meets test (w .0) (w .2))),
+    (λ t. meets-some test (subst T (flag-not-clear (met test) (met (λ s. not (test s)))) t)),
+    (λ w. subst T (sym (flag-not-clear (met test) (met (λ s. not (test s))))) (some-meets test (w .0) (w .2))),
   )
 
   is-held-exactly : (test : ℕ → Bool) → T (isHeld (flag (last r) test (possible r trace k))) ↔ Always r trace k test

@@ -1,5 +1,5 @@
 -- The set after an evaluation, state by state.
-use Prim.Native.Nat.{ℕ, suc, _≤_, _<_}
+use Prim.Native.Nat.{ℕ, zero, suc, _≤_, _<_}
 use native.Mathlib.Omega.{arith}
 use native.Mathlib.Nat.{eq-or-lt-of-le}
 use mathlib.Core.Path.{_≡_, ap, subst}
@@ -11,7 +11,7 @@ use lib.Dec.{T, eqb, eqb→eq, eqb-refl}
 use borrow.Author.Tests.{lt-ltb, le-ltb}
 use Rattle.lists.specs.Lists.{someBelow}
 use Rattle.lists.proofs.Bools.{and-left, and-right, both, or-left, or-right, or-elim, bool-ext, some-intro, some-elim, length-tabulate, getD-tabulate, held-below}
-use Rattle.fillings.specs.PossibleStates.{has, Moves, leads, next}
+use Rattle.fillings.specs.PossibleStates.{has, Moves, leads, anything, next, unseenTimes}
 
 -- the test that the set after an evaluation tabulates
 abbrev pub from-some : ℕ → Moves → List Bool → ℕ → ℕ → Bool
@@ -123,3 +123,8 @@ next-only-zero w p =
     (λ t. or-elim (w .leave && has p 0) (w .stay && has p 0) t
     (λ v. by-leave 0 w p (and-right (w .leave) (has p 0) v) (and-left (w .leave) (has p 0) v))
     (λ v. by-stay 0 w p (and-right (w .stay) (has p 0) v) (and-left (w .stay) (has p 0) v)))
+
+pub unseen-length : (k m : ℕ) (recovers : Bool) (p : List Bool) → length p ≡ suc m → length (unseenTimes k m recovers p) ≡ suc m
+unfolding unseenTimes
+unseen-length zero m recovers p e = e
+unseen-length (suc k) m recovers p e = next-length m (anything recovers) (unseenTimes k m recovers p)

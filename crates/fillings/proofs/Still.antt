@@ -16,7 +16,7 @@ use Rattle.rules.specs.Evaluation.{evaluated}
 use Rattle.fillings.specs.Fillings.{Rule, last, Shown, unseen}
 use Rattle.fillings.specs.PossibleStates.{has, anything, moves, next, possible, unseenTimes}
 use Rattle.fillings.specs.promises.Demand3.{evaluations, Still}
-use Rattle.fillings.proofs.Next.{next-length, reached, by-up, by-restart, by-leave, by-stay}
+use Rattle.fillings.proofs.Next.{next-length, unseen-length, reached, by-up, by-restart, by-leave, by-stay}
 
 module _ (m : ℕ) (recovers : Bool) where
   -- two sets with the same states
@@ -90,11 +90,6 @@ module _ (m : ℕ) (recovers : Bool) where
         let e : min (s + m) m ≡ m = omega arith in subst (λ i. T (has (set m) i)) e (rises s m (omega arith) a))
         (λ u. let e : min (m + m) m ≡ m = omega arith in subst (λ i. T (has (set m) i)) e (rises m m (omega arith) (and-right recovers (has p m) u)))
 
-    unseen-length : length p ≡ suc m → (k : ℕ) → length (set k) ≡ suc m
-    unfolding unseenTimes
-    unseen-length n zero = n
-    unseen-length n (suc k) = next-length m (anything recovers) (set k)
-
     -- where one evaluation changes nothing, none does
     pub stays : (j : ℕ) → next m (anything recovers) (set j) ≡ set j → (k : ℕ) → j ≤ k → set k ≡ set j
     unfolding unseenTimes
@@ -120,7 +115,7 @@ module _ (m : ℕ) (recovers : Bool) where
         go false d b e = let z = ltb-false 0 m d in quiet (unmoved p n (λ s l a. omega arith) (λ a u. omega arith))
         go true d true e =
             let t : Falls = subst T (sym e) tt in
-            full (set m) (unseen-length n m) (ltb-true 0 m d)
+            full (set m) (unseen-length m m recovers p n) (ltb-true 0 m d)
             (λ s l. ⊎-elim (λ z. subst (λ i. T (has (set m) i)) (sym z) (tops t)) (λ h. fills t m s h h) (eq-or-lt-of-le l))
         go true d false e = quiet (kept n e)
 

@@ -1,15 +1,15 @@
 -- Unseen evaluations lead to the top state exactly from the states so many below it.
 use Prim.Native.Nat.{ℕ, suc, _<_, min}
-use mathlib.Core.Path.{_≡_, refl, ap, sym, _∙_}
-use mathlib.Core.Bool.{Bool, true, false, not, _&&_, and-false, or-false}
+use mathlib.Core.Path.{_≡_, ap, sym, _∙_}
+use mathlib.Core.Bool.{Bool, false, not, _&&_, and-false, or-false}
 use mathlib.Core.List.{List}
 use native.Mathlib.Omega.{arith}
 use lib.ListN.{length}
 use Rattle.lists.specs.Lists.{someBelow}
 use Rattle.rules.specs.Evaluation.{status}
-use Rattle.flags.specs.Flags.{flagOf}
 use Rattle.fillings.specs.PossibleStates.{has, unseenTimes}
 use Rattle.fillings.specs.Flags.{flag, notClear}
+use Rattle.fillings.proofs.Flags.{flag-not-clear}
 use Rattle.fillings.proofs.Still.{still}
 use Rattle.fillings.proofs.UnseenStates.{below-top, top-within}
 use Rattle.states.proofs.SetFlags.{top-active}
@@ -18,11 +18,6 @@ module _ (m : ℕ) (recovers : Bool) (p : List Bool) where
   -- the top state is possible exactly if some i unseen evaluations lead to it
   pub top-reached : (j : ℕ) → 0 < m → length p ≡ suc m → has (unseenTimes j m recovers p) m ≡ someBelow (suc (min j m)) (below-top m p)
   top-reached j pos l = ap (λ (q : List Bool). has q m) (still j m recovers p l) ∙ top-within m recovers p (min j m) pos (omega arith)
-
-flag-not-clear : (a b : Bool) → notClear (flagOf a b) ≡ a
-flag-not-clear true true = refl
-flag-not-clear true false = refl
-flag-not-clear false b = refl
 
 -- Status is held or unknown exactly if the top state is possible.
 status-possible : (m : ℕ) (p : List Bool) → 0 < m → notClear (flag m (status m) p) ≡ has p m

@@ -6,7 +6,6 @@ use mathlib.Core.List.{List}
 use native.Mathlib.Omega.{arith}
 use lib.ListN.{length}
 use Rattle.lists.specs.Lists.{someBelow}
-use Rattle.lists.proofs.Bools.{length-tabulate}
 use Rattle.rules.specs.declared.Row.{Row}
 use Rattle.rules.specs.declared.Setting.{Setting}
 use Rattle.rules.specs.Table.{rowAt}
@@ -14,21 +13,17 @@ use Rattle.rules.specs.Evaluation.{top, status}
 use Rattle.fillings.specs.PossibleStates.{unseenTimes}
 use Rattle.fillings.specs.Flags.{flag, flagsOf, notClear, firstFrom}
 use Rattle.fillings.specs.promises.Demand3.{evaluations}
-use Rattle.states.specs.Records.{at, statesOf, ruleWords}
+use Rattle.states.specs.Records.{ruleWords}
 use Rattle.states.specs.Steps.{setOf, evaluationsOf}
 use Rattle.states.specs.Readings.{allowed}
 use Rattle.fillings.proofs.UnseenStates.{below-top}
-use Rattle.states.proofs.Moving.{has-states}
+use Rattle.states.proofs.Moving.{states-length, has-states}
 use Rattle.states.proofs.OneRule.{allowed-state}
 use Rattle.states.proofs.Tops.{top-fits, top-pos}
 use Rattle.first_ticks.specs.inner.Firsts.{none, firstUnseen}
 use Rattle.first_ticks.proofs.Searches.{is-missing}
 use Rattle.first_ticks.proofs.Runs.{status-off, status-unseen}
 use Rattle.first_ticks.proofs.RunTicks.{tickAfter, tick-missing, tick-found, tick-until}
-
-states-length : (w : List ℕ) (m : ℕ) → length (statesOf w m) ≡ suc m
-unfolding statesOf
-states-length w m = length-tabulate (suc m) (at w)
 
 off-clear : (m : ℕ) (p : List Bool) → m ≡ 0 → notClear (flag m (status m) p) ≡ false
 off-clear m p e = ap (λ (x : ℕ). notClear (flag x (status x) p)) e ∙ status-off p

@@ -61,21 +61,12 @@ pub(crate) fn note_status(status: Flag, i: usize, tick: u32, possible: &mut [u32
     }
 }
 
-fn smaller(n: u64, top: usize) -> usize
-    ensures { λ r. ⌜ r ≡ min n top ⌝ }
-{
-    if n < top as u64 {
-        return n as usize;
-    }
-    top
-}
-
 // The fewest of n unseen evaluations that lead rule i to its top state, or none. States that are impossible are passed a word at a time.
 fn fewest_unseen(words: &[u64], i: usize, top: usize, n: u64) -> u32
     requires { ⌜ top ≤ 256 ⌝ }
     ensures { λ r. ⌜ r ≡ firstFrom 0 (suc (min n top)) (λ j. allowed (now (words .entry)) i (top - j)) ⌝ }
 {
-    let end = smaller(n, top);
+    let end = states::smaller(n, top);
     let mut j: usize = 0;
     while j <= end {
         let gap = states::gap(words, i, top - j);

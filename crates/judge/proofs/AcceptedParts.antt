@@ -1,11 +1,9 @@
 -- The parts of an accepted trace, and what is written of them.
 use Prim.Native.Nat.{ℕ, _+_, _*_, _/_, _≤_, _<_}
 use mathlib.Core.Path.{_≡_, refl, sym, ap, _∙_}
-use mathlib.Core.Bool.{Bool, cond}
 use mathlib.Core.List.{List, map}
 use native.Mathlib.Omega.{arith}
 use lib.ListN.{length, getD}
-use borrow.Author.Tests.{eq-eqb}
 use Rattle.refusals.specs.Refusals.{Answer, answer, refused}
 use Rattle.refusals.proofs.Answers.{clash}
 use Rattle.rules.specs.declared.Setting.{Setting}
@@ -15,9 +13,7 @@ use Rattle.trace.specs.Records.{repliesIn}
 use Rattle.trace.specs.Sections.{walkAnswer, holesPart, repliesPart, samplesPart}
 use Rattle.trace.specs.Acceptance.{Parsed, acceptAnswer, ticksOf, layoutOf, settingsIn}
 use Rattle.trace.proofs.Layouts.{PartsAre, parts-are, length-part, replies-start, few-replies}
-use Rattle.flags.specs.declared.RuleFlags.{RuleFlags}
-use Rattle.report.specs.declared.FirstTicks.{FirstTicks}
-use Rattle.report.specs.declared.Totals.{Totals}
+use Rattle.report.proofs.WholeReport.{report-whole, totals-same}
 use Rattle.report.specs.Layout.{reportBytes, reported}
 use Rattle.totals.proofs.AcceptedTotals as totals
 use Rattle.ticks.specs.Traces.{traceOf, shown}
@@ -40,14 +36,6 @@ accepted-whole (refused n p) e f g = absurd (clash (sym e))
 -- The layout of the sections is that of the trace.
 pub same-count : (s : List ℕ) {l : Layout} {w : Parsed} → walkAnswer s ≡ answer l → acceptAnswer s ≡ answer w → l .«reply_count» ≡ w .layout .«reply_count»
 same-count s {l} {w} a h = let e : answer l ≡ answer (w .layout) = sym a ∙ checks s w h .walked in cc
-
-written : (fs : List RuleFlags) (ts : List FirstTicks) (t : Totals) (buffer : List ℕ) → length buffer ≡ 187 → reported fs ts t buffer ≡ reportBytes fs ts t
-unfolding reported
-written fs ts t buffer e = ap (λ (b : Bool). cond b (reportBytes fs ts t) buffer) (eq-eqb (length buffer) 187 e)
-
-totals-same : {i j o p u v t : ℕ} → i ≡ j → o ≡ p → u ≡ v
-    → _≡_ {A = Totals} (record { «charge_in» = i; «charge_out» = o; unseen = u; ticks = t }) (record { «charge_in» = j; «charge_out» = p; unseen = v; ticks = t })
-totals-same e f g = rw (e, f, g)
 
 module _ (s : List ℕ) (l : Layout) (ss : Settings) (t : ℕ) (h : acceptAnswer s ≡ answer (record { layout = l; settings = ss .of; ticks = t })) where
   abbrev w : Parsed
@@ -85,7 +73,7 @@ module _ (s : List ℕ) (l : Layout) (ss : Settings) (t : ℕ) (h : acceptAnswer
 
   -- the totals of the parts are those of the trace
   totals-are : ((i : ℕ) → getD s i 0 < 256) → summed (l .cells) (holesPart s l) (samplesPart s l) t ≡ totalsAt (shown (traceOf s w)) t
-  totals-are bytes = let z = totals.summed s w h bytes in totals-same (z .sumIn) (z .sumOut) (z .sumUnseen)
+  totals-are bytes = let z = totals.summed s w h bytes in totals-same (z .sumIn) (z .sumOut) (z .sumUnseen) refl
 
   pub report-is : ((i : ℕ) → getD s i 0 < 256) → (buffer : List ℕ) → length buffer ≡ 187
       → reported (flagsAt (configIn frame) (shown (traceOf s w)) t) (firstsAt (configIn frame) (shown (traceOf s w)) t) (summed (l .cells) (holesPart s l) (samplesPart s l) t) buffer
@@ -94,7 +82,7 @@ module _ (s : List ℕ) (l : Layout) (ss : Settings) (t : ℕ) (h : acceptAnswer
   report-is bytes buffer e =
       let fs = flagsAt (configIn frame) (shown (traceOf s w)) t in
       let ts = firstsAt (configIn frame) (shown (traceOf s w)) t in
-      written fs ts (summed (l .cells) (holesPart s l) (samplesPart s l) t) buffer e ∙ ap (reportBytes fs ts) (totals-are bytes)
+      report-whole fs ts (summed (l .cells) (holesPart s l) (samplesPart s l) t) buffer e ∙ ap (reportBytes fs ts) (totals-are bytes)
 
   pub verdicts-are : map (verdictOn (configIn frame) (shown (traceOf s w))) (repliesIn (repliesPart s l)) ≡ traceVerdicts (traceOf s w)
   unfolding traceVerdicts

@@ -1,5 +1,5 @@
 -- Paper 01, 'The sixteen rules': the limits of a rule's numbers, and a rule set lent as 160 bytes (refusals 3, 6 and 7).
-use Prim.Native.Nat.{ℕ, zero, suc, _+_, _*_}
+use Prim.Native.Nat.{ℕ, suc, _+_, _*_}
 use mathlib.Core.Bool.{Bool, true, false, cond, _&&_, _||_}
 use mathlib.Core.List.{List, [], _∷_}
 use lib.IntN.{ℤ, pos, negsuc}

@@ -26,6 +26,7 @@ use Rattle.flags.specs.declared.RuleFlags.{RuleFlags}
 use Rattle.flags.specs.Outputs.{outputOf, drivers, statusesOf}
 use Rattle.rules.specs.Table.{rows}
 use Rattle.report.specs.declared.Totals.{Totals}
+use Rattle.report.proofs.WholeReport.{totals-same}
 use Rattle.states.specs.promises.Tracking.{recordAt, ShortTimes}
 use Rattle.states.proofs.Tracking.{tracks}
 use Rattle.ticks.specs.Traces.{Trace, traceOf, shown, shownIn, Accepted}
@@ -104,10 +105,6 @@ module _ (p : Config) (short : ShortTimes p) (all : List Stamped) where
 
   with : (w : List ℕ) (t : Totals) → Live
   with w t = record { cells = p .cells; idle = p .idle; settings = record { of = p .settings }; states = record { words = w }; totals = t }
-
-  totals-same : {i j o q u v s t : ℕ} → i ≡ j → o ≡ q → u ≡ v → s ≡ t
-      → _≡_ {A = Totals} (record { «charge_in» = i; «charge_out» = o; unseen = u; ticks = s }) (record { «charge_in» = j; «charge_out» = q; unseen = v; ticks = t })
-  totals-same a b c d = rw (a, b, c, d)
 
   -- a seen tick
   sees : (k : ℕ) (x : Sample) → shownIn all k ≡ seen x → withSample (stateAt k) x ≡ stateAt (suc k)

@@ -17,7 +17,7 @@ use Rattle.refusals.proofs.Answers.{where-true}
 use Rattle.states.specs.Validity.{validRecord}
 use Rattle.states.proofs.KeptValid.{fresh-valid, seen-valid, unseen-valid}
 use Rattle.report.specs.declared.Totals.{Totals}
-use Rattle.demands.proofs.TotalBounds.{in-most, out-most}
+use Rattle.fillings.proofs.Charge.{in-most, out-most}
 use Rattle.live.specs.declared.Live.{Live}
 use Rattle.live.specs.State.{good, begun, withSample, withHole}
 use Rattle.live.specs.Calls.{beginAnswer, sampleAnswer, holeAnswer}

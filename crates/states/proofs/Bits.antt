@@ -1,7 +1,7 @@
 -- Laws of one bit of a word.
 use Prim.Native.Nat.{ℕ, zero, suc, _+_, _*_, _^_, _-_, _/_, _%_, _≤_, _<_}
 use mathlib.Core.Path.{_≡_, refl, ap, ap₂, sym, _∙_}
-use mathlib.Core.Bool.{Bool, true, false, _||_}
+use mathlib.Core.Bool.{true, false, _||_}
 use mathlib.Core.Logic.{⊎-elim}
 use native.Mathlib.Omega.{arith}
 use native.Mathlib.Nat.{div-eq-of-lt, mod-lt, one-mul, pow-suc, eq-or-lt-of-le, div-eq-of-lt-le, lt-of-lt-of-le, le-of-eq, le-of-lt, mod-eq-of-lt, mul-assoc}

@@ -5,30 +5,21 @@ use mathlib.Core.List.{List}
 use mathlib.Core.Bool.{Bool, false}
 use mathlib.Core.Logic.{⊎-elim}
 use native.Mathlib.Omega.{arith}
-use lib.Dec.{T, eqb, eqb→eq}
-use lib.ListN.{getD, length, drop, length-take, List·getD-eq-default}
+use lib.Dec.{T}
+use lib.ListN.{getD, drop, length-take, List·getD-eq-default}
 use lib.Seq.{ext-getD}
 use Rattle.lists.specs.Lists.{someBelow}
-use Rattle.lists.proofs.Bools.{and-left, and-right, is-false, below?, every-elim, getD-tabulate}
+use Rattle.lists.proofs.Bools.{and-right, is-false, below?, getD-tabulate}
 use Rattle.rules.specs.declared.Setting.{Setting}
 use Rattle.rules.specs.Evaluation.{top}
 use Rattle.fillings.specs.PossibleStates.{has}
 use Rattle.states.specs.Records.{at, Fit64, statesOf, ruleWords}
 use Rattle.states.specs.Steps.{settingOf, setOf}
-use Rattle.states.specs.Validity.{validSet, validRecord}
+use Rattle.states.specs.Validity.{validSet}
 use Rattle.states.specs.promises.Tracking.{Determined}
 use Rattle.states.proofs.Packing.{same-words}
 use Rattle.states.proofs.RuleWords.{part, part-length}
-use Rattle.states.proofs.ValidWords.{above, none-at}
-
--- A valid record is eighty words long, and its sets are valid.
-long : (ss : List Setting) (ws : List ℕ) → T (validRecord ss ws) → length ws ≡ 80
-unfolding validRecord
-long ss ws t = eqb→eq (length ws) 80 (and-left (eqb (length ws) 80) _ t)
-
-set-valid : (ss : List Setting) (ws : List ℕ) → T (validRecord ss ws) → (i : ℕ) → i < 16 → T (validSet (settingOf ss i) i ws)
-unfolding validRecord
-set-valid ss ws t i h = every-elim 16 (λ j. validSet (settingOf ss j) j ws) (and-right (eqb (length ws) 80) _ t) i h
+use Rattle.states.proofs.ValidWords.{above, none-at, valid-long, valid-set}
 
 none-above : (s : Setting) (i : ℕ) (ws : List ℕ) → T (validSet s i ws) → someBelow 320 (above (top (s .time)) (ruleWords ws i)) ≡ false
 none-above s i ws t = is-false _ (and-right (someBelow (suc (top (s .time))) (at (ruleWords ws i))) _ t)
@@ -50,9 +41,9 @@ same-at m a b e na nb p h =
 
 pub determined : Determined
 determined ss v w fv fw gv gw e =
-    ext-getD 0 v w (long ss v gv ∙ sym (long ss w gw))
+    ext-getD 0 v w (valid-long ss v gv ∙ sym (valid-long ss w gw))
     (λ k h.
-    let h′ : k < 80 = omega (arith, long ss v gv) in
+    let h′ : k < 80 = omega (arith, valid-long ss v gv) in
     let d : k ≡ 5 * (k / 5) + k % 5 = omega arith in
     ap (λ (x : ℕ). getD v x 0) d
     ∙ sym (part v (5 * (k / 5)) (k % 5) (omega arith))
@@ -62,7 +53,7 @@ determined ss v w fv fw gv gw e =
   where
     rule-same : (i : ℕ) → i < 16 → ruleWords v i ≡ ruleWords w i
     rule-same i h =
-        same-words (ruleWords v i) (ruleWords w i) (part-length v (5 * i) (omega (arith, long ss v gv))) (part-length w (5 * i) (omega (arith, long ss w gw)))
+        same-words (ruleWords v i) (ruleWords w i) (part-length v (5 * i) (omega (arith, valid-long ss v gv))) (part-length w (5 * i) (omega (arith, valid-long ss w gw)))
         (rule-fits v fv i) (rule-fits w fw i)
         (same-at (top (settingOf ss i .time)) (ruleWords v i) (ruleWords w i) (e i h)
-        (none-above (settingOf ss i) i v (set-valid ss v gv i h)) (none-above (settingOf ss i) i w (set-valid ss w gw i h)))
+        (none-above (settingOf ss i) i v (valid-set ss v gv i h)) (none-above (settingOf ss i) i w (valid-set ss w gw i h)))

@@ -6,26 +6,26 @@ use mathlib.Core.Bool.{Bool, true, false, not, cond, _&&_, _||_}
 use mathlib.Core.Logic.{⊎-elim}
 use native.Mathlib.Omega.{arith}
 use native.Mathlib.Nat.{eq-or-lt-of-le}
-use lib.Dec.{T, eqb, eqb→eq}
+use lib.Dec.{T, eqb}
 use lib.ListN.{length, List·getD-eq-default}
 use borrow.Author.Tests.{eq-eqb}
 use Rattle.lists.specs.Lists.{someBelow, everyBelow}
-use Rattle.lists.proofs.Bools.{and-left, and-right, both, or-elim, some-intro, some-elim, every-intro, every-elim, length-tabulate}
+use Rattle.lists.proofs.Bools.{and-left, both, or-elim, some-intro, some-elim, every-intro}
 use Rattle.rules.specs.declared.Setting.{Setting}
 use Rattle.rules.specs.declared.Readings.{Readings}
 use Rattle.rules.specs.Table.{rowAt}
 use Rattle.rules.specs.Evaluation.{trips, clears, top}
 use Rattle.fillings.specs.PossibleStates.{has, Moves, found, anything, next, start, unseenTimes}
-use Rattle.fillings.proofs.Next.{next-length, by-up, by-restart, by-leave, by-stay}
+use Rattle.fillings.proofs.Next.{next-length, unseen-length, by-up, by-restart, by-leave, by-stay}
 use Rattle.states.specs.Records.{at, statesOf, wordsOf, ruleWords, recordWith, fresh}
 use Rattle.states.specs.Steps.{settingOf, setOf, movesAt, seenWords, afterSeen, evaluationsOf, movesBetween, unseenWords, afterUnseen}
 use Rattle.states.specs.Validity.{validSet, validRecord}
 use Rattle.states.proofs.Packing.{wordsOf-length, at-wordsOf}
-use Rattle.states.proofs.Moving.{has-states}
+use Rattle.states.proofs.Moving.{states-length, has-states}
 use Rattle.states.proofs.RuleWords.{record-length}
 use Rattle.states.proofs.EachRule.{rule-kept, rule-new}
 use Rattle.states.proofs.Tops.{top-fits}
-use Rattle.states.proofs.ValidWords.{above, validWords, valid-of}
+use Rattle.states.proofs.ValidWords.{above, validWords, valid-of, valid-long, valid-set}
 
 -- The words of a set in which some state is.
 set-valid : (m : ℕ) (p : List Bool) → m ≤ 256 → length p ≡ suc m → T (someBelow (suc m) (has p)) → T (validWords m (wordsOf p))
@@ -59,11 +59,6 @@ unseen-some (suc n) m recovers p t = next-some m (anything recovers) (unseenTime
     go : (b : Bool) → T (b || true)
     go true = tt
     go false = tt
-
-unseen-length : (n m : ℕ) (recovers : Bool) (p : List Bool) → length p ≡ suc m → length (unseenTimes n m recovers p) ≡ suc m
-unfolding unseenTimes
-unseen-length zero m recovers p e = e
-unseen-length (suc n) m recovers p e = next-length m (anything recovers) (unseenTimes n m recovers p)
 
 -- No time of the sixteen rules is over 255.
 abbrev pub Short : List Setting → Type 0
@@ -106,20 +101,11 @@ fresh-valid ss =
 
 -- What a valid record has for a rule.
 module _ (ss : List Setting) (ws : List ℕ) (t : T (validRecord ss ws)) where
-  pub valid-long : length ws ≡ 80
-  unfolding validRecord
-  valid-long = eqb→eq (length ws) 80 (and-left (eqb (length ws) 80) (everyBelow 16 (λ i. validSet (settingOf ss i) i ws)) t)
-
-  valid-rule : (i : ℕ) → i < 16 → T (validWords (topOf ss i) (ruleWords ws i))
-  unfolding validRecord
-  valid-rule i h =
-      every-elim 16 (λ i. validSet (settingOf ss i) i ws) (and-right (eqb (length ws) 80) (everyBelow 16 (λ i. validSet (settingOf ss i) i ws)) t) i h
-
   some-state : (i : ℕ) → i < 16 → T (someBelow (suc (topOf ss i)) (has (setOf (settingOf ss i) i ws)))
   some-state i h =
       let m : ℕ = topOf ss i in
       let w : List ℕ = ruleWords ws i in
-      let (s, l, u) = some-elim (suc m) (at w) (and-left (someBelow (suc m) (at w)) (not (someBelow 320 (above m w))) (valid-rule i h)) in
+      let (s, l, u) = some-elim (suc m) (at w) (and-left (someBelow (suc m) (at w)) (not (someBelow 320 (above m w))) (valid-set ss ws t i h)) in
       some-intro (suc m) (has (statesOf w m)) s l (subst T (sym (has-states w m s (omega arith))) u)
 
   module _ (short : Short ss) where
@@ -129,12 +115,12 @@ module _ (ss : List Setting) (ws : List ℕ) (t : T (validRecord ss ws)) where
     moved c sets new =
         record-valid ss c (λ i. wordsOf (sets i)) ws
         (λ i h e. let (l, u) = new i h in (wordsOf-length (sets i), set-valid (topOf ss i) (sets i) (low-top ss short i h) l u))
-        (λ i h e. (valid-long, valid-rule i h))
+        (λ i h e. (valid-long ss ws t, valid-set ss ws t i h))
 
     pub seen-valid : (idle tick : ℕ) (r : Readings) → T (validRecord ss (afterSeen ss idle tick r ws))
     unfolding afterSeen
     seen-valid idle tick r =
-        rw (eq-eqb (length ws) 80 valid-long)
+        rw (eq-eqb (length ws) 80 (valid-long ss ws t))
         (moved (λ i. movesAt tick (settingOf ss i) i) (λ i. next (topOf ss i) (mv i) (setOf (settingOf ss i) i ws))
         (λ i h. (next-length (topOf ss i) (mv i) (setOf (settingOf ss i) i ws), next-some (topOf ss i) (mv i) (setOf (settingOf ss i) i ws) (either (mv i .up)) (either (mv i .leave)) (some-state i h))))
       where
@@ -148,9 +134,9 @@ module _ (ss : List Setting) (ws : List ℕ) (t : T (validRecord ss ws)) where
     pub unseen-valid : (first last : ℕ) → T (validRecord ss (afterUnseen ss first last ws))
     unfolding afterUnseen statesOf
     unseen-valid first last =
-        rw (eq-eqb (length ws) 80 valid-long)
+        rw (eq-eqb (length ws) 80 (valid-long ss ws t))
         (moved (λ i. movesBetween first last (settingOf ss i) i) (λ i. unseenTimes (evaluationsOf first last i) (topOf ss i) (rowAt i .recovers) (setOf (settingOf ss i) i ws))
         (λ i h. (
-          unseen-length (evaluationsOf first last i) (topOf ss i) (rowAt i .recovers) (setOf (settingOf ss i) i ws) (length-tabulate (suc (topOf ss i)) (at (ruleWords ws i))),
+          unseen-length (evaluationsOf first last i) (topOf ss i) (rowAt i .recovers) (setOf (settingOf ss i) i ws) (states-length (ruleWords ws i) (topOf ss i)),
           unseen-some (evaluationsOf first last i) (topOf ss i) (rowAt i .recovers) (setOf (settingOf ss i) i ws) (some-state i h),
         )))

@@ -10,20 +10,16 @@ use lib.Dec.{T, eqb}
 use lib.ListN.{length, replicate, List·getD-eq-default}
 use borrow.Author.Tests.{lt-ltb, le-ltb, eq-eqb, ne-eqb}
 use Rattle.lists.specs.Lists.{someBelow}
-use Rattle.lists.proofs.Bools.{or-left, or-right, or-elim, is-false, refuted, bool-ext, both-false, below?, some-intro, some-elim, length-tabulate}
+use Rattle.lists.proofs.Bools.{or-left, or-right, or-elim, is-false, refuted, bool-ext, both-false, below?, some-intro, some-elim}
 use Rattle.fillings.specs.PossibleStates.{has, anything, next, unseenTimes}
-use Rattle.fillings.proofs.Next.{next-length}
+use Rattle.fillings.proofs.Next.{unseen-length}
 use Rattle.fillings.proofs.Still.{still}
 use Rattle.fillings.proofs.UnseenStates.{below-top, counted-up, top-within, first-states, unmoved-times}
 use Rattle.states.specs.Records.{at, Fit64, statesOf, wordsOf}
 use Rattle.states.specs.inner.Words.{Below, With, Same, Filled}
 use Rattle.states.proofs.FiveWords.{at-none}
 use Rattle.states.proofs.Packing.{same-words, wordsOf-length, wordsOf-fit, at-wordsOf}
-use Rattle.states.proofs.Moving.{has-states, some-states}
-
-states-length : (w : List ℕ) (m : ℕ) → length (statesOf w m) ≡ suc m
-unfolding statesOf
-states-length w m = length-tabulate (suc m) (at w)
+use Rattle.states.proofs.Moving.{states-length, has-states, some-states}
 
 pub one-unseen : (w v : List ℕ) (m n : ℕ) (recovers : Bool) → n ≡ 1 → v ≡ wordsOf (next m (anything recovers) (statesOf w m))
     → v ≡ wordsOf (unseenTimes n m recovers (statesOf w m))
@@ -161,16 +157,11 @@ module _ (w : List ℕ) (m : ℕ) (recovers : Bool) (pos : 0 < m) (fits : m ≤ 
       unseen-bits n p h =
           ⊎-elim (below-bits p) (λ g. ⊎-elim (λ e. ap (at r) (sym e) ∙ top-bits ∙ ap (has Q) e) (λ l. past-bits p h l n) (eq-or-lt-of-le g)) (below? p m)
 
-  times-length : (k : ℕ) → length (unseenTimes k m recovers P) ≡ suc m
-  unfolding unseenTimes
-  times-length zero = states-length w m
-  times-length (suc k) = next-length m (anything recovers) (unseenTimes k m recovers P)
-
   pub some-move : (low cut up r : List ℕ) (n k : ℕ) (some held b : Bool) → Below w m low → some ≡ someBelow 320 (at low) → held ≡ at w m
       → (some || recovers && held) ≡ true → k ≡ min n m → Below w (m - k) cut → Filled cut k up → Same low cut b → With up m (held || not b) r
       → length low ≡ 5 → Fit64 low → length cut ≡ 5 → Fit64 cut → length r ≡ 5 → Fit64 r → r ≡ wordsOf (unseenTimes n m recovers P)
   some-move low cut up r n k some held b lo so he e ek cu fi sa wi ll lf cl cf l f =
       words-of-set (unseenTimes k m recovers P) r l f
-      (unseen-bits low cut up k held b (omega arith) he lo cu fi sa ll lf cl cf r wi (sym (falls low some held lo so he) ∙ e) (times-length k))
+      (unseen-bits low cut up k held b (omega arith) he lo cu fi sa ll lf cl cf r wi (sym (falls low some held lo so he) ∙ e) (unseen-length k m recovers P (states-length w m)))
       ∙ ap (λ (x : ℕ). wordsOf (unseenTimes x m recovers P)) ek
       ∙ ap wordsOf (sym (still n m recovers P (states-length w m)))

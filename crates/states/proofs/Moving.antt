@@ -11,12 +11,16 @@ use lib.Dec.{T, ltb, eqb, ltb→lt, lt→ltb}
 use lib.ListN.{length, List·getD-eq-default}
 use borrow.Author.Tests.{lt-ltb, le-ltb, eq-eqb, ne-eqb}
 use Rattle.lists.specs.Lists.{someBelow}
-use Rattle.lists.proofs.Bools.{and-left, and-right, both, bool-ext, below?, some-intro, some-elim, getD-tabulate}
+use Rattle.lists.proofs.Bools.{and-left, and-right, both, bool-ext, below?, some-intro, some-elim, length-tabulate, getD-tabulate}
 use Rattle.fillings.specs.PossibleStates.{has, Moves, next}
 use Rattle.fillings.proofs.Next.{next-length, next-zero, next-between, next-top}
 use Rattle.states.specs.Records.{at, Fit64, statesOf, wordsOf}
 use Rattle.states.specs.inner.Words.{Below, Raised, With}
 use Rattle.states.proofs.Packing.{same-words, wordsOf-length, wordsOf-fit, at-wordsOf}
+
+pub states-length : (w : List ℕ) (m : ℕ) → length (statesOf w m) ≡ suc m
+unfolding statesOf
+states-length w m = length-tabulate (suc m) (at w)
 
 pub has-states : (w : List ℕ) (m s : ℕ) → s ≤ m → has (statesOf w m) s ≡ at w s
 unfolding statesOf

@@ -31,7 +31,7 @@ use Rattle.states.proofs.RuleFlagLaws.{unknown}
 use Rattle.states.proofs.OffRules.{off-possible}
 use Rattle.states.proofs.Tops.{top-fits}
 
-packed-length : (f : ℕ → List Bool) → length (packed f) ≡ 80
+pub packed-length : (f : ℕ → List Bool) → length (packed f) ≡ 80
 packed-length f = record-length (λ i. true) (λ i. wordsOf (f i)) []
 
 packed-at : (f : ℕ → List Bool) (k : ℕ) → k < 80 → getD (packed f) k 0 ≡ getD (wordsOf (f (k / 5))) (k % 5) 0

@@ -1,5 +1,5 @@
 -- Whether words hold a set of a rule's states, as code finds it.
-use Prim.Native.Nat.{ℕ, zero, suc, _+_, _*_, _^_, _/_, _%_, _≤_, _<_}
+use Prim.Native.Nat.{ℕ, suc, _+_, _*_, _^_, _/_, _%_, _≤_, _<_}
 use mathlib.Core.Path.{_≡_, refl, ap, ap₂, sym, _∙_, subst}
 use mathlib.Core.List.{List}
 use mathlib.Core.Bool.{Bool, true, false, not, cond, _&&_, _||_, and-false}
@@ -149,6 +149,16 @@ module _ (w : List ℕ) (t : ℕ) where
           let i : s < 320 = omega arith in
           subst T (sym (some-none w (λ p d. c .none e p (omega arith)))) (some-intro 320 (at w) s i u)))
 
+-- A valid record is eighty words long, and its sets are valid.
+module _ (ss : List Setting) (ws : List ℕ) (t : T (validRecord ss ws)) where
+  pub valid-long : length ws ≡ 80
+  unfolding validRecord
+  valid-long = eqb→eq (length ws) 80 (and-left (eqb (length ws) 80) _ t)
+
+  pub valid-set : (i : ℕ) → i < 16 → T (validSet (settingOf ss i) i ws)
+  unfolding validRecord
+  valid-set i h = every-elim 16 (λ j. validSet (settingOf ss j) j ws) (and-right (eqb (length ws) 80) _ t) i h
+
 -- The rules below i have valid sets.
 pub record AllValid (ss : List Setting) (ws : List ℕ) (i : ℕ) : Type 0 where
   pub within : i ≤ 16
@@ -170,10 +180,9 @@ module _ (ss : List Setting) (ws : List ℕ) where
       (every-intro 16 (λ j. validSet (settingOf ss j) j ws) (λ j l. a .done j (omega arith)))))
 
   pub all-stop : (i : ℕ) (b : Bool) → i < 16 → b ≡ validSet (settingOf ss i) i ws → b ≡ false → false ≡ validRecord ss ws
-  unfolding validRecord
   all-stop i b h e t =
       sym (refuted _ (λ u.
-      subst T (sym e ∙ t) (every-elim 16 (λ j. validSet (settingOf ss j) j ws) (and-right (eqb (length ws) 80) (everyBelow 16 (λ j. validSet (settingOf ss j) j ws)) u) i h)))
+      subst T (sym e ∙ t) (valid-set ss ws u i h)))
 
   pub all-none : (length ws ≡ 80 → ⊥) → false ≡ validRecord ss ws
   unfolding validRecord

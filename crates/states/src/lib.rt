@@ -22,6 +22,7 @@ pub use seen::see_rule;
 pub use unseen::evaluations_in;
 pub use unseen::miss;
 pub use validity::valid;
+pub use words::smaller;
 
 // Five words a rule: state s of rule i is bit s of the words from 5 i on, the lowest first.
 pub struct States {

@@ -199,7 +199,8 @@ fn filled(w: [u64; 5], k: usize) -> [u64; 5]
     [a, b, c, d, e]
 }
 
-fn least(n: u64, top: usize) -> usize
+// The smaller of a number and a state.
+pub fn smaller(n: u64, top: usize) -> usize
     ensures { λ k. ⌜ k ≡ min n top ⌝ }
 {
     let end = top as u64;
@@ -218,7 +219,7 @@ pub(crate) fn many_unseen(w: [u64; 5], top: usize, recovers: bool, n: u64) -> [u
     let held = test(w, top);
     let low = below(w, top);
     if some(low) | recovers & held {
-        let k = least(n, top);
+        let k = smaller(n, top);
         let cut = below(w, top - k);
         let up = filled(cut, k);
         return with_state(up, top, held | !same(low, cut));

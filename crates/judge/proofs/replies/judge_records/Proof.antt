@@ -1,7 +1,8 @@
-use Prim.Native.Nat.{ℕ, _+_, _-_}
+use Prim.Native.Nat.{ℕ, _+_, _-_, _*_, _≤_}
 use mathlib.Core.Path.{sym, ap, _∙_}
 use native.Mathlib.Omega.{arith}
 use lib.ListN.{length, length-set}
+use denote.Ref.{now}
 use borrow.Author.Needs.{needs}
 use Rattle.judge.proofs.Knowing.{long, sixteen, sixteen-held}
 use Rattle.judge.proofs.Judging.{Judging, judging-start, next-reply, in-replies, six-bytes, judging-next, not-past, judging-end, known-there}
@@ -40,35 +41,26 @@ reach-requires c κs =
     let r = next-reply (l .loop .inv) (c .before .before .before .before .loop-test .taken) in
     (l .loop .inv .there, omega (arith, c .before .before .before .u32-at .ensures, r .after, l .loop .inv .passed), omega (arith, c .before .before .before .u32-at .ensures, r .covered))
 
+-- The ten bytes of a reply lie within the replies, which are few.
+lies : (c : tie.After-alarms Inv-loop μ-loop)
+    → (c .before .before .before .before .before .before .before .before .before .before .before .before .before .before .loop .j * 10 + 10 ≤ length (now (c .before .before .before .before .before .before .before .before .before .before .before .before .before .before .before .before .before .before .before .before .before .before .args .replies)))
+    × (length (now (c .before .before .before .before .before .before .before .before .before .before .before .before .before .before .before .before .before .before .before .before .before .before .args .replies)) ≤ 655350)
+lies c = (in-replies (c .before .before .before .before .before .before .before .before .before .before .before .before .before .before .loop .inv) (c .before .before .before .before .before .before .before .before .before .before .before .before .before .loop-test .taken), c .before .before .before .before .before .before .before .before .before .before .before .before .before .before .before .before .before .before .before .before .before .before .pre .4)
+
 add-verdict-on : tie.Need-add-verdict-on Inv-loop μ-loop
-add-verdict-on c =
-    let l = in-replies (c .before .before .before .before .before .before .before .before .before .before .before .before .before .before .loop .inv) (c .before .before .before .before .before .before .before .before .before .before .before .before .before .loop-test .taken) in
-    let few = c .before .before .before .before .before .before .before .before .before .before .before .before .before .before .before .before .before .before .before .before .before .before .pre .4 in
-    omega arith
+add-verdict-on c = let (within, few) = lies c in omega arith
 
 add-verdict-on-2 : tie.Need-add-verdict-on-2 Inv-loop μ-loop
-add-verdict-on-2 c =
-    let l = in-replies (c .before .before .before .before .before .before .before .before .before .before .before .before .before .before .loop .inv) (c .before .before .before .before .before .before .before .before .before .before .before .before .before .loop-test .taken) in
-    let few = c .before .before .before .before .before .before .before .before .before .before .before .before .before .before .before .before .before .before .before .before .before .before .pre .4 in
-    omega arith
+add-verdict-on-2 c = let (within, few) = lies c in omega arith
 
 sub-verdict-on : tie.Need-sub-verdict-on Inv-loop μ-loop
-sub-verdict-on c =
-    let l = in-replies (c .before .before .before .before .before .before .before .before .before .before .before .before .before .before .loop .inv) (c .before .before .before .before .before .before .before .before .before .before .before .before .before .loop-test .taken) in
-    let few = c .before .before .before .before .before .before .before .before .before .before .before .before .before .before .before .before .before .before .before .before .before .before .pre .4 in
-    omega arith
+sub-verdict-on c = let (within, few) = lies c in omega arith
 
 part-verdict-on-start : tie.Need-part-verdict-on-start Inv-loop μ-loop
-part-verdict-on-start c =
-    let l = in-replies (c .before .before .before .before .before .before .before .before .before .before .before .before .before .before .loop .inv) (c .before .before .before .before .before .before .before .before .before .before .before .before .before .loop-test .taken) in
-    let few = c .before .before .before .before .before .before .before .before .before .before .before .before .before .before .before .before .before .before .before .before .before .before .pre .4 in
-    omega arith
+part-verdict-on-start c = let (within, few) = lies c in omega arith
 
 part-verdict-on-end : tie.Need-part-verdict-on-end Inv-loop μ-loop
-part-verdict-on-end c =
-    let l = in-replies (c .before .before .before .before .before .before .before .before .before .before .before .before .before .before .loop .inv) (c .before .before .before .before .before .before .before .before .before .before .before .before .before .loop-test .taken) in
-    let few = c .before .before .before .before .before .before .before .before .before .before .before .before .before .before .before .before .before .before .before .before .before .before .pre .4 in
-    omega arith
+part-verdict-on-end c = let (within, few) = lies c in omega arith
 
 verdict-on-requires : tie.Need-verdict-on-requires Inv-loop μ-loop
 verdict-on-requires c κs = six-bytes (c .before .before .before .before .before .before .before .before .before .before .before .before .before .before .before .loop .inv) (c .before .before .before .before .before .before .before .before .before .before .before .before .before .before .loop-test .taken)
@@ -77,10 +69,7 @@ slice-write-verdicts : tie.Need-slice-write-verdicts Inv-loop μ-loop
 slice-write-verdicts c = c .before .before .before .before .before .before .before .before .before .before .before .before .before .before .before .loop-test .taken
 
 add-j : tie.Need-add-j Inv-loop μ-loop
-add-j c =
-    let l = in-replies (c .before .before .before .before .before .before .before .before .before .before .before .before .before .before .before .before .loop .inv) (c .before .before .before .before .before .before .before .before .before .before .before .before .before .before .before .loop-test .taken) in
-    let few = c .before .before .before .before .before .before .before .before .before .before .before .before .before .before .before .before .before .before .before .before .before .before .before .before .pre .4 in
-    omega arith
+add-j c = let (within, few) = lies (c .before .before) in omega arith
 
 loop-less : tie.Need-loop-less Inv-loop μ-loop
 loop-less c =

@@ -25,8 +25,8 @@ below-requires c κs = search needs
 some-requires : tie.Need-some-requires
 some-requires c κs = search needs
 
-least-requires : tie.Need-least-requires
-least-requires c κs = search needs
+smaller-requires : tie.Need-smaller-requires
+smaller-requires c κs = search needs
 
 sub-below : tie.Need-sub-below
 sub-below c = search needs
@@ -62,17 +62,17 @@ returns-2 : tie.Need-returns-2
 returns-2 c =
     let up = c .before .before in
     let cut = up .before in
-    let least = cut .before in
-    let test = least .before in
+    let smaller = cut .before in
+    let test = smaller .before in
     let some = test .before in
     let low = some .before in
     let held = low .before in
     let start = held .before .before in
     let a = start .args in
     some-move (a .w) (a .top) (a .recovers) (start .pre .1 .0) (start .pre .1 .1)
-    (low .below .result) (cut .below2 .result) (up .filled .result) (c .with-state .result) (a .n) (least .least .result)
+    (low .below .result) (cut .below2 .result) (up .filled .result) (c .with-state .result) (a .n) (smaller .smaller .result)
     (some .some .result) (held .test .result) (c .before .same .result)
-    (low .below .ensures) (some .some .ensures) (held .test .ensures) (test .if2 .taken) (least .least .ensures) (cut .below2 .ensures)
+    (low .below .ensures) (some .some .ensures) (held .test .ensures) (test .if2 .taken) (smaller .smaller .ensures) (cut .below2 .ensures)
     (up .filled .ensures) (c .before .same .ensures) (c .with-state .ensures)
     (low-long low) (λ j. low-fits low j .fits) (cut-long cut) (λ j. cut-fits cut j .fits) (search (needs, c .with-state .ok)) (λ j. fits c j .fits)
 
@@ -102,7 +102,7 @@ many-unseen-spec =
     test-requires
     below-requires
     some-requires
-    least-requires
+    smaller-requires
     sub-below
     below-requires-2
     filled-requires
