@@ -1,6 +1,6 @@
 // The verdict on a read-word reply of the pack (paper 01, 'Replies').
 ghost use mathlib.Core.Path.{_≡_};
-ghost use mathlib.Core.Bool.{cond, _&&_, _||_};
+ghost use mathlib.Core.Bool.{cond, _||_};
 ghost use Prim.Native.Nat.{_+_, _*_, _<_};
 ghost use lib.Dec.{eqb};
 ghost use lib.Signed.{leZ};
@@ -12,6 +12,7 @@ ghost use Rattle.verdicts.specs.Verdicts.{answerOfVerdict, wordOf, volta
 use flags::Flag;
 use pec::Checked;
 use refusals::Refusal;
+use rules::and;
 
 // What is known of a reply's tick: its sample's sum of cells and current, or nothing, inside a hole.
 pub enum Tick {
@@ -104,12 +105,6 @@ fn or(a: bool, b: bool) -> bool
     ensures { λ r. ⌜ r ≡ (a || b) ⌝ }
 {
     if a { true } else { b }
-}
-
-fn and(a: bool, b: bool) -> bool
-    ensures { λ r. ⌜ r ≡ (a && b) ⌝ }
-{
-    if a { b } else { false }
 }
 
 fn at_most(a: i16, b: i16) -> bool
