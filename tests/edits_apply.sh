@@ -1,6 +1,6 @@
 #!/usr/bin/env bash
-# The edits of crates/*/must-fail/more, which tools/try_edits tries: each still says something of the code. Every `old:` text stands
-# in its file once, and the text that replaces it is another.
+# The edits of crates/*/must-fail, and those of must-fail/more, which tools/try_edits tries: each still says something of the code.
+# Every `old:` text stands in its file once, and the text that replaces it is another.
 set -u
 edits=0 failed=0
 
@@ -9,7 +9,7 @@ bad() { # MESSAGE
     failed=1
 }
 
-for edit in crates/*/must-fail/more/*.edit; do
+for edit in crates/*/must-fail/*.edit crates/*/must-fail/more/*.edit; do
     crate=${edit%/must-fail/*} file='' old='' pairs=0
     edits=$((edits + 1))
     while IFS= read -r line; do

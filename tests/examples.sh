@@ -11,7 +11,7 @@ if ! [ -x "$PROGRAM" ]; then
     exit 1
 fi
 mkdir -p "$out/random" || exit 1
-tools/compile trace_text && tools/compile explain && tools/compile text_round_trip || exit 1
+tools/compile text && tools/compile explain && tools/compile text/round_trip || exit 1
 
 check() { # NAME COMMAND...: the command succeeds
     local name=$1

@@ -3,7 +3,7 @@
 # 3,000 random traces from a printed seed, on which both must write the same.
 set -u
 program=${PROGRAM:-target/bin/judge_trace}
-plain=target/tools/plain_judge
+plain=target/tools/cases_plain_judge
 hand=target/judge_cases/hand
 random=target/judge_cases/random
 
@@ -12,9 +12,8 @@ if ! [ -x "$program" ]; then
     exit 1
 fi
 mkdir -p target/tools || exit 1
-rustc --edition 2021 -O -o "$plain" tools/plain_judge_main.rs || exit 1
-rustc --edition 2021 -O -o target/tools/judge_cases tools/judge_cases.rs || exit 1
-target/tools/judge_cases "$hand" || exit 1
+tools/compile cases/plain_judge && tools/compile cases || exit 1
+target/tools/cases "$hand" || exit 1
 
 show() { # NAME TRACE LEFT RIGHT: the trace in hex and two outputs
     echo "judge_cases: $1"
@@ -39,7 +38,7 @@ echo "judge_cases: $cases cases"
 
 seed=${SEED:-$RANDOM}
 echo "judge_cases: seed $seed"
-target/tools/judge_cases "$random" "$seed" 3000 || exit 1
+target/tools/cases "$random" "$seed" 3000 || exit 1
 
 for trace in "$random"/*.trace; do
     "$program" <"$trace"

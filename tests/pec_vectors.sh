@@ -2,8 +2,8 @@
 # The packet error code against a second implementation: the stored vectors, and 400 messages made from a printed seed.
 set -eu
 mkdir -p target/tools
-rustc -O -o target/tools/crc8 tools/crc8.rs
-second=target/tools/crc8
+tools/compile cases/crc8
+second=target/tools/cases_crc8
 first=target/bin/pec_vectors
 same() { # FILE: both programs write the same codes of its messages
     cmp <("$first" <"$1") <("$second" <"$1")

@@ -1,5 +1,5 @@
 // A refusal in words, and where in the file to look (paper 01, 'Refusal numbers').
-use crate::explain_accepted::{tick_text, title};
+use crate::accepted::{tick_text, title};
 use crate::names::RULES;
 use crate::trace_layout::{hole_of, idle_of, reply_of, rule_of, sample_of, sections, whole, Section, NAMES};
 

@@ -1,15 +1,13 @@
 // `explain TRACE ANSWER` says in words what the judge answered about a trace, given the trace and what the judge wrote. Every
 // flag, first tick, total and verdict is the judge's; from the trace come names, ticks and numbers to show.
-#[path = "explain_accepted.rs"]
-mod explain_accepted;
-#[path = "explain_refused.rs"]
-mod explain_refused;
-#[path = "names.rs"]
+mod accepted;
+mod refused;
+#[path = "../trace/names.rs"]
 mod names;
 #[allow(dead_code)]
-#[path = "trace_bytes.rs"]
+#[path = "../trace/bytes.rs"]
 mod trace_bytes;
-#[path = "trace_layout.rs"]
+#[path = "../trace/layout.rs"]
 mod trace_layout;
 
 use std::io::Write;
@@ -33,8 +31,8 @@ fn refusal(line: &str) -> Option<(u8, u32)> {
 fn explained(trace: &[u8], answer: &str) -> Option<String> {
     let lines: Vec<&str> = answer.lines().collect();
     match lines[..] {
-        ["accepted", report, verdicts] => explain_accepted::explained(trace, report, verdicts),
-        [line] => refusal(line).map(|(number, place)| explain_refused::explained(trace, number, place)),
+        ["accepted", report, verdicts] => accepted::explained(trace, report, verdicts),
+        [line] => refusal(line).map(|(number, place)| refused::explained(trace, number, place)),
         _ => None,
     }
 }

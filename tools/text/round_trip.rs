@@ -1,24 +1,21 @@
-// `text_round_trip SEED COUNT DIR`: random traces, spoiled ones and other byte strings to text and back. The first 200 are also
+// `round_trip SEED COUNT DIR`: random traces, spoiled ones and other byte strings to text and back. The first 200 are also
 // written to the directory.
-#[path = "names.rs"]
+#[path = "../trace/names.rs"]
 mod names;
-#[path = "random_trace.rs"]
+#[path = "../cases/random_trace.rs"]
 mod random_trace;
-#[path = "text_lines.rs"]
-mod text_lines;
-#[path = "text_to_trace.rs"]
-mod text_to_trace;
-#[path = "trace_bytes.rs"]
+mod lines;
+mod to_trace;
+#[path = "../trace/bytes.rs"]
 mod trace_bytes;
-#[path = "trace_layout.rs"]
+#[path = "../trace/layout.rs"]
 mod trace_layout;
-#[path = "trace_to_text.rs"]
-mod trace_to_text;
+mod to_text;
 
 use random_trace::{random_trace, spoiled, Random};
-use text_to_trace::assemble;
+use to_trace::assemble;
 use trace_layout::{sections, whole};
-use trace_to_text::disassemble;
+use to_text::disassemble;
 
 fn random_bytes(x: &mut Random, count: i64) -> Vec<u8> {
     (0..count).map(|_| x.next() as u8).collect()

@@ -1,17 +1,14 @@
-// `trace_text assemble [FILE]` writes the bytes of a trace given as text, `trace_text disassemble [FILE]` the text of bytes.
+// `text assemble [FILE]` writes the bytes of a trace given as text, `text disassemble [FILE]` the text of bytes.
 // Without FILE it reads standard input. The text is explained in examples/README.md.
-#[path = "names.rs"]
+#[path = "../trace/names.rs"]
 mod names;
-#[path = "text_lines.rs"]
-mod text_lines;
-#[path = "text_to_trace.rs"]
-mod text_to_trace;
-#[path = "trace_bytes.rs"]
+mod lines;
+mod to_trace;
+#[path = "../trace/bytes.rs"]
 mod trace_bytes;
-#[path = "trace_layout.rs"]
+#[path = "../trace/layout.rs"]
 mod trace_layout;
-#[path = "trace_to_text.rs"]
-mod trace_to_text;
+mod to_text;
 
 use std::io::{Read, Write};
 use std::process::exit;
@@ -46,9 +43,9 @@ fn main() {
     let file = arguments.get(1);
     let input = read(job, file);
     let output = if job == "disassemble" {
-        trace_to_text::disassemble(&input).into_bytes()
+        to_text::disassemble(&input).into_bytes()
     } else {
-        match text_to_trace::assemble(&String::from_utf8_lossy(&input)) {
+        match to_trace::assemble(&String::from_utf8_lossy(&input)) {
             Ok(bytes) => bytes,
             Err(fault) => stop(format!("assemble: {}, line {}: {}", source(file), fault.line, fault.message)),
         }

@@ -1,6 +1,6 @@
 // The bytes of a trace from its text: a line for each record, or lines of bytes alone.
 use crate::names::{BATTERY_STATUS, COMMANDS, CURRENT, RULES};
-use crate::text_lines::{Fault, Span, Words};
+use crate::lines::{Fault, Span, Words};
 use crate::trace_bytes::{seal, Sample, Trace};
 use std::ops::RangeInclusive;
 

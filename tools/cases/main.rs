@@ -1,8 +1,7 @@
-// Traces with the answer that paper 01 gives to each, written down by hand: `judge_cases DIR`. Random traces:
-// `judge_cases DIR SEED COUNT`. A trace is NUMBER.trace, its answer NUMBER.expect; `index` has a line for each.
-#[path = "random_trace.rs"]
+// Traces with the answer that paper 01 gives to each, written down by hand: `cases DIR`. Random traces:
+// `cases DIR SEED COUNT`. A trace is NUMBER.trace, its answer NUMBER.expect; `index` has a line for each.
 mod random_trace;
-#[path = "trace_bytes.rs"]
+#[path = "../trace/bytes.rs"]
 mod trace_bytes;
 
 use random_trace::{random_trace, spoiled, Random};

@@ -1,6 +1,6 @@
 // Judges the trace on standard input with the plain judge and writes what paper 01's program writes. With file names it
 // judges each file and writes its name after the answer.
-#[path = "plain_judge.rs"]
+#[path = "../bench/plain_judge.rs"]
 mod plain_judge;
 
 use plain_judge::{judge, reply_count};

@@ -1,8 +1,7 @@
 // The proved judge beside the plain one: the same captures, in the same run. Stops if they differ in a byte. Then a sample of the
 // live feed.
-#[path = "plain_judge.rs"]
 mod plain_judge;
-#[path = "trace_bytes.rs"]
+#[path = "../trace/bytes.rs"]
 mod trace_bytes;
 
 use plain_judge::{judge, reply_count};
@@ -177,7 +176,7 @@ fn measure(name: &str, trace: &[u8]) -> Times {
     let (mut a, mut b) = (([0xaa; 187], vec![0xbb; n]), ([0xaa; 187], vec![0xbb; n]));
     let (x, y) = (proved(trace, &mut a.0, &mut a.1), plain(trace, &mut b.0, &mut b.1));
     if x != y || a != b {
-        eprintln!("bench_judge: the judges differ at {name}: {x:#x} and {y:#x}\n{a:02x?}\n{b:02x?}");
+        eprintln!("bench: the judges differ at {name}: {x:#x} and {y:#x}\n{a:02x?}\n{b:02x?}");
         std::process::exit(1);
     }
     assert!(x == 0, "{name}: refused");
