@@ -11,7 +11,7 @@ use Rattle.flags.specs.Flags.{numberOf}
 use Rattle.bytes_le.specs.Writing.{bytesOf, putAt}
 use Rattle.bytes_le.proofs.ByteLists.{length-bytes}
 use Rattle.bytes_le.proofs.Puts.{put-fits}
-use Rattle.report.specs.Bytes.{Put}
+use Rattle.report.specs.inner.Bytes.{Put}
 
 -- Nothing put.
 pub put-none : (s : List ℕ) (a : ℕ) → Put s s a a []

@@ -8,7 +8,7 @@ use lib.ListN.{length, take, getD, length-map}
 use lib.Seq.{take-all}
 use Rattle.flags.specs.declared.RuleFlags.{RuleFlags}
 use Rattle.report.specs.declared.FirstTicks.{FirstTicks}
-use Rattle.report.specs.Bytes.{Put}
+use Rattle.report.specs.inner.Bytes.{Put}
 use Rattle.report.specs.Layout.{ruleBytes, rulesBytes}
 use Rattle.report.proofs.Puts.{put-none, put-then, put-to, put-as}
 

@@ -10,7 +10,7 @@ use Rattle.refusals.specs.Refusals.{answer, refused}
 use Rattle.flags.specs.declared.RuleFlags.{RuleFlags}
 use Rattle.report.specs.declared.FirstTicks.{FirstTicks}
 use Rattle.report.specs.declared.Totals.{Totals}
-use Rattle.report.specs.Bytes.{Put}
+use Rattle.report.specs.inner.Bytes.{Put}
 use Rattle.report.specs.Layout.{reportBytes, reportAnswer, reported}
 
 -- A buffer of another length is refused, and keeps its bytes.

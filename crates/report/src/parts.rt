@@ -3,7 +3,7 @@ ghost use mathlib.Core.List.{[], _∷_};
 ghost use Prim.Native.Nat.{_+_, _<_, _≤_};
 ghost use lib.ListN.{length};
 ghost use Rattle.flags.specs.Flags.{numberOf};
-ghost use Rattle.report.specs.Bytes.{Put};
+ghost use Rattle.report.specs.inner.Bytes.{Put};
 ghost use Rattle.report.specs.Layout.{ruleBytes, rulesBytes, outputBytes, totalBytes};
 use crate::AllFirstTicks;
 use crate::FirstTicks;
