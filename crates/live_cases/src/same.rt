@@ -16,12 +16,7 @@ fn same_words(a: [u64; 80], b: [u64; 80]) -> bool {
 }
 
 fn same_setting(a: Setting, b: Setting) -> bool {
-    if a.threshold == b.threshold {
-        if a.recovery == b.recovery {
-            return a.time == b.time;
-        }
-    }
-    false
+    (a.threshold == b.threshold) & (a.recovery == b.recovery) & (a.time == b.time)
 }
 
 fn same_settings(a: Settings, b: Settings) -> bool {
@@ -36,14 +31,10 @@ fn same_settings(a: Settings, b: Settings) -> bool {
 }
 
 fn same_totals(a: Totals, b: Totals) -> bool {
-    if a.charge_in == b.charge_in {
-        if a.charge_out == b.charge_out {
-            if a.unseen == b.unseen {
-                return a.ticks == b.ticks;
-            }
-        }
-    }
-    false
+    (a.charge_in == b.charge_in)
+        & (a.charge_out == b.charge_out)
+        & (a.unseen == b.unseen)
+        & (a.ticks == b.ticks)
 }
 
 pub(crate) fn same(a: Live, b: Live) -> bool {
@@ -51,16 +42,9 @@ pub(crate) fn same(a: Live, b: Live) -> bool {
     let b_states = b.states;
     let a_words = a_states.words;
     let b_words = b_states.words;
-    let a_settings = a.settings;
-    let b_settings = b.settings;
-    let a_totals = a.totals;
-    let b_totals = b.totals;
-    if rules::and(a.cells == b.cells, a.idle == b.idle) {
-        if same_settings(a_settings, b_settings) {
-            if same_totals(a_totals, b_totals) {
-                return same_words(a_words, b_words);
-            }
-        }
-    }
-    false
+    (a.cells == b.cells)
+        & (a.idle == b.idle)
+        & same_totals(a.totals, b.totals)
+        & same_settings(a.settings, b.settings)
+        & same_words(a_words, b_words)
 }

@@ -10,8 +10,8 @@ use mir.Syntax.{w64}
 use mir.Val.{Fits, SFits, toZ, ofZ}
 use mir.ValLaws.{toZ-ofZ, toZ-pos}
 use borrow.Author.Needs.{needs}
-use Rattle.live_cases.proofs.tries.magnitude.Statement.{statement}
-use Rattle.live_cases.proofs.tries.magnitude.Tie as tie
+use Rattle.live_cases.proofs.answers.magnitude.Statement.{statement}
+use Rattle.live_cases.proofs.answers.magnitude.Tie as tie
 
 -- −(m + 1), whose bits turned round are m.
 turned : (z : ℤ) → SFits w64 z → ltZ z (pos 0) ≡ true → (m : ℕ) × (m < 9223372036854775808) × (toZ w64 (18446744073709551615 - ofZ w64 z) ≡ pos m)
