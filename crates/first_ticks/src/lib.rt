@@ -1,9 +1,7 @@
 // The first ticks of the report, kept for sixteen rules (paper 01, 'Three-way outputs').
 ghost use mathlib.Core.Path.{_≡_};
 ghost use mathlib.Core.Bool.{cond};
-ghost use Rattle.fillings.specs.Flags.{notClear, isHeld};
-ghost use Rattle.first_ticks.specs.inner.Firsts.{sized, allSized, notedSeen, notedUnseen};
-ghost use Rattle.states.specs.Steps.{afterSeen};
+ghost use Rattle.first_ticks.specs.inner.Firsts.{sized, wordsSeen, possibleSeen, heldSeen, notedUnseen};
 
 mod rule;
 
@@ -23,9 +21,9 @@ pub fn see(
     possible: &mut [u32],
     held: &mut [u32],
 )
-    ensures words { λ _. ⌜ now (words .exit) ≡ cond (allSized (now (words .entry)) (now (possible .entry)) (now (held .entry))) (afterSeen (settings .of) idle tick readings (now (words .entry))) (now (words .entry)) ⌝ }
-    ensures possible { λ _. ⌜ now (possible .exit) ≡ cond (allSized (now (words .entry)) (now (possible .entry)) (now (held .entry))) (notedSeen notClear (settings .of) tick (afterSeen (settings .of) idle tick readings (now (words .entry))) (now (possible .entry))) (now (possible .entry)) ⌝ }
-    ensures held { λ _. ⌜ now (held .exit) ≡ cond (allSized (now (words .entry)) (now (possible .entry)) (now (held .entry))) (notedSeen isHeld (settings .of) tick (afterSeen (settings .of) idle tick readings (now (words .entry))) (now (held .entry))) (now (held .entry)) ⌝ }
+    ensures words { λ _. ⌜ now (words .exit) ≡ wordsSeen (settings .of) idle tick readings (now (words .entry)) (now (possible .entry)) (now (held .entry)) ⌝ }
+    ensures possible { λ _. ⌜ now (possible .exit) ≡ possibleSeen (settings .of) idle tick readings (now (words .entry)) (now (possible .entry)) (now (held .entry)) ⌝ }
+    ensures held { λ _. ⌜ now (held .exit) ≡ heldSeen (settings .of) idle tick readings (now (words .entry)) (now (possible .entry)) (now (held .entry)) ⌝ }
 {
     if words.len() != 80 {
         return;

@@ -5,14 +5,12 @@ ghost use lib.ListN.{length};
 ghost use Rattle.refusals.specs.Refusals.{answer};
 ghost use Rattle.trace.specs.Records.{repliesIn};
 ghost use Rattle.trace.specs.Acceptance.{acceptAnswer};
-ghost use Rattle.report.specs.Layout.{reported};
 ghost use Rattle.ticks.specs.Traces.{traceOf};
-ghost use Rattle.fillings.specs.Flags.{flagsAt};
-ghost use Rattle.demands.specs.Report.{firstsAt, traceReport};
+ghost use Rattle.demands.specs.Report.{traceReport};
 ghost use Rattle.demands.specs.Verdicts.{verdictOn, traceVerdicts};
 ghost use Rattle.walk.specs.inner.Places.{shows};
 ghost use Rattle.judge.specs.inner.Walk.{configIn};
-ghost use Rattle.judge.specs.inner.Ending.{Parts, summed};
+ghost use Rattle.judge.specs.inner.Ending.{Parts, reportOf};
 use crate::advance::Frame;
 use crate::ending::totals_of;
 use crate::ending::write_end;
@@ -30,7 +28,7 @@ fn judge_parts(
     verdicts: &mut [u8],
 )
     requires { ⌜ Parts f (now holes) (now replies) (now samples) (length (now verdicts)) ⌝ }
-    ensures report { λ _. ⌜ now (report .exit) ≡ reported (flagsAt (configIn f) (shows (f .cells) (now (samples .entry))) (f .ticks)) (firstsAt (configIn f) (shows (f .cells) (now (samples .entry))) (f .ticks)) (summed (f .cells) (now (holes .entry)) (now (samples .entry)) (f .ticks)) (now (report .entry)) ⌝ }
+    ensures report { λ _. ⌜ now (report .exit) ≡ reportOf f (now (holes .entry)) (now (samples .entry)) (now (report .entry)) ⌝ }
     ensures verdicts { λ _. ⌜ now (verdicts .exit) ≡ map (verdictOn (configIn f) (shows (f .cells) (now (samples .entry)))) (repliesIn (now (replies .entry))) ⌝ }
 {
     let begun = states::States::begin();

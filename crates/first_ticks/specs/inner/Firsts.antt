@@ -6,12 +6,13 @@ use lib.Dec.{eqb}
 use lib.ListN.{getD, length}
 use Rattle.lists.specs.Lists.{tabulate}
 use Rattle.rules.specs.declared.Setting.{Setting}
+use Rattle.rules.specs.declared.Readings.{Readings}
 use Rattle.rules.specs.Table.{rowAt}
 use Rattle.rules.specs.Evaluation.{top}
 use Rattle.flags.specs.declared.Flag.{Flag}
 use Rattle.fillings.specs.PossibleStates.{unseenTimes}
-use Rattle.fillings.specs.Flags.{flagsOf, notClear, firstFrom}
-use Rattle.states.specs.Steps.{settingOf, setOf, evaluationsOf}
+use Rattle.fillings.specs.Flags.{flagsOf, notClear, isHeld, firstFrom}
+use Rattle.states.specs.Steps.{settingOf, setOf, evaluationsOf, afterSeen}
 use Rattle.states.specs.Readings.{statusOf}
 
 -- No tick.
@@ -44,3 +45,13 @@ sized ws fs = eqb (length ws) 80 && eqb (length fs) 16
 -- And sixteen of the other kind.
 abbrev pub allSized : List ℕ → List ℕ → List ℕ → Bool
 allSized ws fs gs = sized ws fs && eqb (length gs) 16
+
+-- The record and the first ticks of both kinds after a seen tick; lists of other lengths stay as they are.
+abbrev pub wordsSeen : List Setting → ℕ → ℕ → Readings → List ℕ → List ℕ → List ℕ → List ℕ
+wordsSeen ss idle tick r ws fs gs = cond (allSized ws fs gs) (afterSeen ss idle tick r ws) ws
+
+abbrev pub possibleSeen : List Setting → ℕ → ℕ → Readings → List ℕ → List ℕ → List ℕ → List ℕ
+possibleSeen ss idle tick r ws fs gs = cond (allSized ws fs gs) (notedSeen notClear ss tick (afterSeen ss idle tick r ws) fs) fs
+
+abbrev pub heldSeen : List Setting → ℕ → ℕ → Readings → List ℕ → List ℕ → List ℕ → List ℕ
+heldSeen ss idle tick r ws fs gs = cond (allSized ws fs gs) (notedSeen isHeld ss tick (afterSeen ss idle tick r ws) gs) gs

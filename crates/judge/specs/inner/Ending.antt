@@ -9,12 +9,15 @@ use Rattle.trace.specs.Records.{repliesIn}
 use Rattle.trace.specs.Coverage.{repliesAnswer}
 use Rattle.report.specs.declared.FirstTicks.{FirstTicks}
 use Rattle.report.specs.declared.Totals.{Totals}
+use Rattle.report.specs.Layout.{reported}
+use Rattle.fillings.specs.Flags.{flagsAt}
+use Rattle.demands.specs.Report.{firstsAt}
 use Rattle.fillings.specs.Charge.{inward, outward}
 use Rattle.totals.specs.Totals.{chargeSum, unseenSum}
 use Rattle.walk.specs.Walk.{startOf}
-use Rattle.walk.specs.inner.Places.{Stands}
+use Rattle.walk.specs.inner.Places.{shows, Stands}
 use Rattle.judge.specs.declared.advance.Frame.{Frame}
-use Rattle.judge.specs.inner.Walk.{Ready}
+use Rattle.judge.specs.inner.Walk.{configIn, Ready}
 
 -- The first ticks of both kinds, by rule.
 unfoldable pub joined : List ℕ → List ℕ → List FirstTicks
@@ -24,6 +27,12 @@ joined possible held = tabulate 16 (λ i. record { possible = getD possible i 0;
 abbrev pub summed : ℕ → List ℕ → List ℕ → ℕ → Totals
 summed cells holes samples ticks =
     record { «charge_in» = chargeSum inward cells samples; «charge_out» = chargeSum outward cells samples; unseen = unseenSum holes; ticks = ticks }
+
+-- The report that the parts give, in a buffer.
+abbrev pub reportOf : Frame → List ℕ → List ℕ → List ℕ → List ℕ
+reportOf f holes samples buffer =
+    reported (flagsAt (configIn f) (shows (f .cells) samples) (f .ticks)) (firstsAt (configIn f) (shows (f .cells) samples) (f .ticks))
+    (summed (f .cells) holes samples (f .ticks)) buffer
 
 -- The parts of an accepted trace, with as many verdicts as replies.
 pub record Parts (f : Frame) (holes replies samples : List ℕ) (verdicts : ℕ) : Type 0 where
