@@ -12,7 +12,6 @@ pub mod Demand3
 pub mod Outputs
 pub mod Still
 pub mod UnseenStates
-pub mod Evaluations
 pub mod Local
 pub mod Charge
 pub mod Marked

@@ -12,10 +12,10 @@ use lib.Seq.{ext-getD}
 use borrow.Author.Tests.{lt-ltb, le-ltb, ltb-true, ltb-false, leb-true, leb-false}
 use Rattle.lists.specs.Lists.{someBelow}
 use Rattle.lists.proofs.Bools.{and-left, and-right, both, or-left, or-right, or-elim, is-true, bool-ext, some-intro, some-elim, length-tabulate}
-use Rattle.rules.specs.Evaluation.{evaluated}
+use Rattle.rules.specs.Evaluation.{evaluated, evaluations}
 use Rattle.fillings.specs.Fillings.{Rule, last, Shown, unseen}
 use Rattle.fillings.specs.PossibleStates.{has, anything, moves, next, possible, unseenTimes}
-use Rattle.fillings.specs.promises.Demand3.{evaluations, Still}
+use Rattle.fillings.specs.promises.Demand3.{Still}
 use Rattle.fillings.proofs.Next.{next-length, unseen-length, reached, by-up, by-restart, by-leave, by-stay}
 
 module _ (m : ℕ) (recovers : Bool) where

@@ -9,9 +9,9 @@ use lib.Dec.{T, ltb}
 use borrow.Author.Tests.{ltb-false}
 use Rattle.lists.proofs.Bools.{is-true, refuted}
 use Rattle.rules.specs.Samples.{Sample, readingsOf}
-use Rattle.rules.specs.Evaluation.{trips, clears, step, evaluated}
+use Rattle.rules.specs.Evaluation.{trips, clears, step, evaluated, evaluations}
 use Rattle.fillings.specs.Fillings.{Rule, Sound, last, Shown, seen, unseen, Filling, filled, evaluate, after}
-use Rattle.fillings.specs.promises.Demand3.{Sure, evaluations, Tripping}
+use Rattle.fillings.specs.promises.Demand3.{Sure, Tripping}
 use Rattle.fillings.proofs.Reach.{off-or-within, not-both}
 use Rattle.fillings.proofs.Exact.{after-le}
 

@@ -3,4 +3,5 @@ pub mod PossibleStates
 pub mod Flags
 pub mod Outputs
 pub mod Charge
+pub mod Bounds
 pub mod promises

@@ -9,10 +9,9 @@ use Rattle.lists.specs.Lists.{someBelow}
 use Rattle.rules.specs.declared.Row.{Row}
 use Rattle.rules.specs.declared.Setting.{Setting}
 use Rattle.rules.specs.Table.{rowAt}
-use Rattle.rules.specs.Evaluation.{top, status}
+use Rattle.rules.specs.Evaluation.{top, status, evaluations}
 use Rattle.fillings.specs.PossibleStates.{unseenTimes}
 use Rattle.fillings.specs.Flags.{flag, flagsOf, notClear, firstFrom}
-use Rattle.fillings.specs.promises.Demand3.{evaluations}
 use Rattle.states.specs.Records.{ruleWords}
 use Rattle.states.specs.Steps.{setOf, evaluationsOf}
 use Rattle.states.specs.Readings.{allowed}

@@ -1,4 +1,5 @@
 pub mod CellCount
+pub mod Evaluations
 pub mod Quantities
 pub mod Rows
 pub mod Signed

@@ -49,3 +49,8 @@ status m s = ltb 0 m && eqb s m
 -- Whether a rule is evaluated at a tick: at every tick, or at even ticks only.
 abbrev pub evaluated : Row → ℕ → Bool
 evaluated row t = not (row .even) || eqb (t % 2) 0
+
+-- How many of the ticks from a up to, but not with, k evaluate the rule.
+unfoldable pub evaluations : Row → ℕ → ℕ → ℕ
+evaluations row a zero = 0
+evaluations row a (suc k) = cond (ltb k a) 0 (cond (evaluated row k) (suc (evaluations row a k)) (evaluations row a k))

@@ -1,11 +1,11 @@
 // One evaluation of a rule.
 ghost use mathlib.Core.Path.{_≡_};
 ghost use mathlib.Core.Bool.{_&&_};
-ghost use Prim.Native.Nat.{_-_};
+ghost use Prim.Native.Nat.{suc, _-_};
 ghost use lib.IntN.{pos, negℤ};
 ghost use lib.Signed.{ltZ};
 ghost use Rattle.rules.specs.Quantities.{value, qualified};
-ghost use Rattle.rules.specs.Evaluation.{beyond, opposite, trips, clears, top, step, evaluated};
+ghost use Rattle.rules.specs.Evaluation.{beyond, opposite, trips, clears, top, step, evaluated, evaluations};
 use crate::Quantity;
 use crate::Readings;
 use crate::Row;
@@ -119,6 +119,21 @@ pub fn evaluated_at(row: Row, tick: u32) -> bool
     ensures { λ b. ⌜ b ≡ evaluated row tick ⌝ }
 {
     if row.even { tick % 2 == 0 } else { true }
+}
+
+// How often a rule is evaluated from first to last, both included.
+pub fn evaluations_in(row: Row, first: u32, last: u32) -> u64
+    ensures { λ n. ⌜ n ≡ evaluations row first (suc last) ⌝ }
+{
+    if last < first {
+        return 0;
+    }
+    let a = first as u64;
+    let b = last as u64;
+    if row.even {
+        return b / 2 + 1 - (a + 1) / 2;
+    }
+    b - a + 1
 }
 
 // The state at which the status of a rule of this time is active.

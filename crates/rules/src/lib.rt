@@ -8,6 +8,7 @@ mod evaluation;
 
 pub use evaluation::and;
 pub use evaluation::evaluated_at;
+pub use evaluation::evaluations_in;
 pub use evaluation::meets_recovery;
 pub use evaluation::meets_threshold;
 pub use evaluation::step_state;

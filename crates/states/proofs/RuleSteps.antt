@@ -11,9 +11,8 @@ use Rattle.rules.specs.declared.Row.{Row}
 use Rattle.rules.specs.declared.Setting.{Setting}
 use Rattle.rules.specs.declared.Readings.{Readings}
 use Rattle.rules.specs.Table.{rowAt}
-use Rattle.rules.specs.Evaluation.{trips, clears, top, evaluated}
+use Rattle.rules.specs.Evaluation.{trips, clears, top, evaluated, evaluations}
 use Rattle.fillings.specs.PossibleStates.{found, next, unseenTimes}
-use Rattle.fillings.specs.promises.Demand3.{evaluations}
 use Rattle.states.specs.Records.{statesOf, wordsOf, ruleWords, recordWith}
 use Rattle.states.proofs.EachRule.{rule-moves, Moving, moving-read, moving-next, moving-done, moving-end}
 use Rattle.states.specs.Steps.{settingOf, movesBy, movesAt, seenBy, seenWords, afterSeenRule, afterSeen, evaluationsOf, movesBetween, unseenWords, afterUnseen}

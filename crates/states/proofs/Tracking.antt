@@ -12,11 +12,10 @@ use Rattle.lists.specs.Lists.{tabulate}
 use Rattle.lists.proofs.Bools.{both-true, getD-tabulate}
 use Rattle.rules.specs.Samples.{Sample, readingsOf}
 use Rattle.rules.specs.Table.{rowAt}
-use Rattle.rules.specs.Evaluation.{trips, clears, top, evaluated}
+use Rattle.rules.specs.Evaluation.{trips, clears, top, evaluated, evaluations}
 use Rattle.fillings.specs.Fillings.{Rule, last, Shown, seen, unseen, Config, ruleOf}
 use Rattle.fillings.specs.PossibleStates.{Moves, found, moves, next, start, possible, unseenTimes}
 use Rattle.fillings.specs.Flags.{flagsOf, ruleFlags, flagsAt}
-use Rattle.fillings.specs.promises.Demand3.{evaluations}
 use Rattle.fillings.proofs.Still.{possible-length, possible-hole}
 use Rattle.states.specs.Records.{at, statesOf, wordsOf, ruleWords, recordWith, packed, fresh}
 use Rattle.states.specs.Steps.{settingOf, setOf, movesAt, seenWords, afterSeen, evaluationsOf, movesBetween, unseenWords, afterUnseen}

@@ -9,9 +9,8 @@ use Rattle.rules.specs.declared.Setting.{Setting}
 use Rattle.rules.specs.declared.Readings.{Readings}
 use Rattle.rules.specs.Table.{rowAt}
 use Rattle.limits.specs.Limits.{off}
-use Rattle.rules.specs.Evaluation.{trips, clears, top, evaluated}
+use Rattle.rules.specs.Evaluation.{trips, clears, top, evaluated, evaluations}
 use Rattle.fillings.specs.PossibleStates.{found, next, unseenTimes}
-use Rattle.fillings.specs.promises.Demand3.{evaluations}
 use Rattle.states.specs.Records.{statesOf, wordsOf, ruleWords, recordWith}
 
 -- The setting of rule i.

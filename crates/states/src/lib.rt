@@ -19,7 +19,6 @@ use rules::Readings;
 use rules::Settings;
 pub use seen::see;
 pub use seen::see_rule;
-pub use unseen::evaluations_in;
 pub use unseen::miss;
 pub use validity::valid;
 pub use words::smaller;

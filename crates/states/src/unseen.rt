@@ -1,11 +1,10 @@
 // A run of unseen ticks.
 ghost use mathlib.Core.Path.{_≡_};
 ghost use mathlib.Core.Bool.{_&&_};
-ghost use Prim.Native.Nat.{suc, _<_};
+ghost use Prim.Native.Nat.{_<_};
 ghost use lib.Dec.{eqb};
 ghost use lib.ListN.{length};
 ghost use Rattle.rules.specs.Table.{rowAt};
-ghost use Rattle.fillings.specs.promises.Demand3.{evaluations};
 ghost use Rattle.states.specs.Records.{recordWith};
 ghost use Rattle.states.specs.Steps.{movesBetween, unseenWords, afterUnseen};
 use crate::record::load;
@@ -16,21 +15,6 @@ use rules::Row;
 use rules::Setting;
 use rules::Settings;
 
-// How often a rule is evaluated from first to last, both included.
-pub fn evaluations_in(row: Row, first: u32, last: u32) -> u64
-    ensures { λ n. ⌜ n ≡ evaluations row first (suc last) ⌝ }
-{
-    if last < first {
-        return 0;
-    }
-    let a = first as u64;
-    let b = last as u64;
-    if row.even {
-        return b / 2 + 1 - (a + 1) / 2;
-    }
-    b - a + 1
-}
-
 fn miss_rule(words: &mut [u64], i: usize, row: Row, setting: Setting, first: u32, last: u32)
     requires { ⌜ (length (now words) ≡ 80) × ((i < 16) × (row ≡ rowAt i)) ⌝ }
     ensures { λ _. ⌜ now (words .exit) ≡ recordWith (λ j. eqb j i && movesBetween first last setting i) (λ j. unseenWords first last setting i (now (words .entry))) (now (words .entry)) ⌝ }
@@ -39,7 +23,7 @@ fn miss_rule(words: &mut [u64], i: usize, row: Row, setting: Setting, first: u32
     if time == 0 {
         return;
     }
-    let n = evaluations_in(row, first, last);
+    let n = rules::evaluations_in(row, first, last);
     if n == 0 {
         return;
     }

@@ -9,7 +9,7 @@ use lib.Signed.{leZ}
 use lib.Dec.{T}
 use Rattle.refusals.specs.Refusals.{answer}
 use Rattle.rules.specs.Samples.{Sample, readingsOf}
-use Rattle.rules.specs.Evaluation.{trips, clears, alert, status, evaluated}
+use Rattle.rules.specs.Evaluation.{trips, clears, alert, status, evaluated, evaluations}
 use Rattle.flags.specs.declared.Flag.{Flag}
 use Rattle.flags.specs.declared.Flag.the-variants.{Clear, Held}
 use Rattle.flags.specs.declared.Output.{Output}
@@ -19,7 +19,7 @@ use Rattle.flags.specs.Outputs.{drivers}
 use Rattle.fillings.specs.Fillings.{last, seen}
 use Rattle.fillings.specs.Outputs.{output, active}
 use Rattle.fillings.specs.Charge.{netCharge, leastCharge, greatestCharge}
-use Rattle.fillings.specs.promises.Demand3.{First, evaluations, Tripping}
+use Rattle.fillings.specs.promises.Demand3.{First, Tripping}
 use Rattle.trace.specs.Acceptance.{Parsed, acceptAnswer}
 use Rattle.ticks.specs.Traces.{Trace, traceOf, shown, inHole}
 use Rattle.ticks.specs.Cut.{cutAt}

@@ -1,15 +1,15 @@
 -- Demand 3 over any sequence of seen and unseen ticks: what is promised of a rule, of the outputs, and of the net charge.
-use Prim.Native.Nat.{ℕ, zero, suc, _≤_, _<_, min}
+use Prim.Native.Nat.{ℕ, suc, _≤_, _<_, min}
 use mathlib.Core.Path.{_≡_}
 use mathlib.Core.Logic.{_⊎_, _↔_}
-use mathlib.Core.Bool.{Bool, not, cond}
+use mathlib.Core.Bool.{Bool, not}
 use mathlib.Core.List.{List}
 use lib.Signed.{leZ}
-use lib.Dec.{T, ltb}
+use lib.Dec.{T}
 use lib.ListN.{length}
 use Rattle.rules.specs.declared.Row.{Row}
 use Rattle.rules.specs.Samples.{Sample, readingsOf}
-use Rattle.rules.specs.Evaluation.{trips, clears, alert, status, evaluated}
+use Rattle.rules.specs.Evaluation.{trips, clears, alert, status, evaluated, evaluations}
 use Rattle.flags.specs.declared.Flag.the-variants.{Clear, Held, Unknown}
 use Rattle.fillings.specs.Fillings.{Rule, last, Shown, seen, unseen, Filling, after, Config}
 use Rattle.fillings.specs.PossibleStates.{has, possible, unseenTimes}
@@ -37,11 +37,6 @@ Sure r trace k =
 -- t is the first of n ticks with a property, or there is none and t is FFFFFFFFh.
 abbrev pub First : ℕ → (ℕ → Type 0) → ℕ → Type 0
 First n P t = ((t < n) × P t × ((u : ℕ) → u < t → ¬ P u)) ⊎ ((t ≡ 0xFFFFFFFF) × ((u : ℕ) → u < n → ¬ P u))
-
--- How many of the ticks from a up to, but not with, k evaluate the rule.
-unfoldable pub evaluations : Row → ℕ → ℕ → ℕ
-evaluations row a zero = 0
-evaluations row a (suc k) = cond (ltb k a) 0 (cond (evaluated row k) (suc (evaluations row a k)) (evaluations row a k))
 
 -- Every tick from a up to, but not with, k is seen, and its sample meets the threshold if the rule is evaluated there.
 abbrev pub Tripping : Rule → (ℕ → Shown) → ℕ → ℕ → Type 0

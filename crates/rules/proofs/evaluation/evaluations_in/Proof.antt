@@ -1,7 +1,7 @@
-use Rattle.states.proofs.Tops.{evaluations-none, evaluations-half, evaluations-all}
+use Rattle.rules.proofs.Evaluations.{evaluations-none, evaluations-half, evaluations-all}
 use borrow.Author.Needs.{needs}
-use Rattle.states.proofs.unseen.evaluations_in.Statement.{statement}
-use Rattle.states.proofs.unseen.evaluations_in.Tie as tie
+use Rattle.rules.proofs.evaluation.evaluations_in.Statement.{statement}
+use Rattle.rules.proofs.evaluation.evaluations_in.Tie as tie
 
 returns : tie.Need-returns
 returns c = evaluations-none (c .before .args .row) (c .before .args .first) (c .before .args .last) (c .if1 .taken)
