@@ -16,7 +16,7 @@ use Rattle.flags.specs.declared.Flag.the-variants.{Clear, Held, Unknown}
 use Rattle.rules.specs.Evaluation.{top, status}
 use Rattle.fillings.specs.Flags.{flag, notClear, isHeld}
 use Rattle.states.specs.Records.{statesOf, ruleWords}
-use Rattle.states.specs.Steps.{settingOf}
+use Rattle.limits.specs.Limits.{settingOf}
 use Rattle.states.specs.Readings.{statusOf, statusIn}
 use Rattle.states.proofs.OneRule.{status-of-rule}
 use Rattle.first_ticks.proofs.FirstLaws.{noted-same}

@@ -13,7 +13,8 @@ use Rattle.fillings.specs.Fillings.{last, Shown, unseen, Config, ruleOf}
 use Rattle.fillings.specs.PossibleStates.{unseenTimes}
 use Rattle.fillings.specs.Flags.{flagsOf, statusFlag, notClear, isHeld, firstFrom}
 use Rattle.fillings.proofs.Still.{possible-hole}
-use Rattle.states.specs.Steps.{settingOf, setOf, evaluationsOf}
+use Rattle.limits.specs.Limits.{settingOf}
+use Rattle.states.specs.Steps.{setOf, evaluationsOf}
 use Rattle.states.specs.Readings.{statusOf}
 use Rattle.states.specs.promises.Tracking.{recordAt, ShortTimes}
 use Rattle.states.proofs.Tracking.{set-at}

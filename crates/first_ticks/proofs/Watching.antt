@@ -12,7 +12,8 @@ use Rattle.rules.specs.declared.Readings.{Readings}
 use Rattle.rules.specs.Table.{rowAt}
 use Rattle.flags.specs.declared.Flag.{Flag}
 use Rattle.fillings.specs.Flags.{notClear, isHeld}
-use Rattle.states.specs.Steps.{settingOf, afterSeenRule, afterSeen}
+use Rattle.limits.specs.Limits.{settingOf}
+use Rattle.states.specs.Steps.{afterSeenRule, afterSeen}
 use Rattle.states.specs.Readings.{statusIn}
 use Rattle.states.proofs.EachRule.{moving-start, moving-length}
 use Rattle.states.proofs.RuleSteps.{Seeing, seeing-next, seeing-done, seeing-end, rule-seen}

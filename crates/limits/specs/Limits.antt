@@ -5,7 +5,7 @@ use mathlib.Core.List.{List, [], _∷_}
 use lib.IntN.{ℤ, pos, negsuc}
 use lib.Signed.{ltZ, leZ}
 use lib.Dec.{leb, eqb}
-use lib.ListN.{length}
+use lib.ListN.{length, getD}
 use Rattle.lists.specs.Lists.{tabulate}
 use Rattle.refusals.specs.Refusals.{Answer, answer, refused, refusal}
 use Rattle.bytes_le.specs.Numbers.{u16At, i32At}
@@ -64,6 +64,10 @@ ruleSetAnswer n bytes =
 -- A rule that is switched off.
 abbrev pub off : Setting
 off = record { threshold = pos 0; recovery = pos 0; time = 0 }
+
+-- The setting of rule i.
+abbrev pub settingOf : List Setting → ℕ → Setting
+settingOf ss i = getD ss i off
 
 -- The settings that the check hands on: those of the bytes, or all off where it refuses.
 abbrev pub settingsIf : Answer (Unit {0}) → List Setting → List Setting

@@ -12,7 +12,8 @@ use crate::Row;
 use crate::Setting;
 use crate::Side;
 
-fn difference(highest: u16, lowest: u16) -> u16
+// How far apart the highest and the lowest cell are.
+pub fn difference(highest: u16, lowest: u16) -> u16
     ensures { λ d. ⌜ d ≡ highest - lowest ⌝ }
 {
     if highest < lowest {
@@ -38,13 +39,15 @@ fn value_of(quantity: Quantity, r: Readings) -> i64
     }
 }
 
-fn charges(idle: u16, current: i16) -> bool
+// Whether the pack charges.
+pub fn charges(idle: u16, current: i16) -> bool
     ensures { λ b. ⌜ b ≡ ltZ (pos idle) current ⌝ }
 {
     (current as i32) > (idle as i32)
 }
 
-fn discharges(idle: u16, current: i16) -> bool
+// Whether the pack discharges.
+pub fn discharges(idle: u16, current: i16) -> bool
     ensures { λ b. ⌜ b ≡ ltZ current (negℤ (pos idle)) ⌝ }
 {
     (current as i32) < -(idle as i32)

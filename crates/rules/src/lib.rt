@@ -7,6 +7,9 @@ ghost use Rattle.rules.specs.Table.{rows, rowAt};
 mod evaluation;
 
 pub use evaluation::and;
+pub use evaluation::charges;
+pub use evaluation::difference;
+pub use evaluation::discharges;
 pub use evaluation::evaluated_at;
 pub use evaluation::evaluations_in;
 pub use evaluation::meets_recovery;

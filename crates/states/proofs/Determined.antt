@@ -14,7 +14,8 @@ use Rattle.rules.specs.declared.Setting.{Setting}
 use Rattle.rules.specs.Evaluation.{top}
 use Rattle.fillings.specs.PossibleStates.{has}
 use Rattle.states.specs.Records.{at, Fit64, statesOf, ruleWords}
-use Rattle.states.specs.Steps.{settingOf, setOf}
+use Rattle.limits.specs.Limits.{settingOf}
+use Rattle.states.specs.Steps.{setOf}
 use Rattle.states.specs.Validity.{validSet}
 use Rattle.states.specs.promises.Tracking.{Determined}
 use Rattle.states.proofs.Packing.{same-words}

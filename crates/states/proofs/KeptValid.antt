@@ -18,7 +18,8 @@ use Rattle.rules.specs.Evaluation.{trips, clears, top}
 use Rattle.fillings.specs.PossibleStates.{has, Moves, found, anything, next, start, unseenTimes}
 use Rattle.fillings.proofs.Next.{next-length, unseen-length, by-up, by-restart, by-leave, by-stay}
 use Rattle.states.specs.Records.{at, statesOf, wordsOf, ruleWords, recordWith, fresh}
-use Rattle.states.specs.Steps.{settingOf, setOf, movesAt, seenWords, afterSeen, evaluationsOf, movesBetween, unseenWords, afterUnseen}
+use Rattle.limits.specs.Limits.{settingOf}
+use Rattle.states.specs.Steps.{setOf, movesAt, seenWords, afterSeen, evaluationsOf, movesBetween, unseenWords, afterUnseen}
 use Rattle.states.specs.Validity.{validSet, validRecord}
 use Rattle.states.proofs.Packing.{wordsOf-length, at-wordsOf}
 use Rattle.states.proofs.Moving.{states-length, has-states}

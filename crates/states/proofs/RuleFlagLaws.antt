@@ -20,7 +20,8 @@ use Rattle.flags.specs.declared.Flag.the-variants.{Unknown}
 use Rattle.flags.specs.declared.RuleFlags.{RuleFlags}
 use Rattle.fillings.specs.Flags.{flag, flagsOf}
 use Rattle.states.specs.Records.{statesOf, ruleWords}
-use Rattle.states.specs.Steps.{settingOf, setOf}
+use Rattle.limits.specs.Limits.{settingOf}
+use Rattle.states.specs.Steps.{setOf}
 use Rattle.states.specs.Readings.{allFlags}
 
 pub flags-read : (t i : ℕ) (ws w : List ℕ) (a s : Flag) {m : ℕ} → m ≡ top t → w ≡ ruleWords ws i → a ≡ flag m alert (statesOf w m) → s ≡ flag m (status m) (statesOf w m)

@@ -15,7 +15,8 @@ use Rattle.rules.specs.Evaluation.{trips, clears, top, evaluated, evaluations}
 use Rattle.fillings.specs.PossibleStates.{found, next, unseenTimes}
 use Rattle.states.specs.Records.{statesOf, wordsOf, ruleWords, recordWith}
 use Rattle.states.proofs.EachRule.{rule-moves, Moving, moving-read, moving-next, moving-done, moving-end}
-use Rattle.states.specs.Steps.{settingOf, movesBy, movesAt, seenBy, seenWords, afterSeenRule, afterSeen, evaluationsOf, movesBetween, unseenWords, afterUnseen}
+use Rattle.limits.specs.Limits.{settingOf}
+use Rattle.states.specs.Steps.{movesBy, movesAt, seenBy, seenWords, afterSeenRule, afterSeen, evaluationsOf, movesBetween, unseenWords, afterUnseen}
 
 pub positive : (t : ℕ) → (t ≡ 0 → ⊥) → 0 < t
 positive zero n = absurd (n refl)

@@ -18,7 +18,8 @@ use Rattle.fillings.specs.PossibleStates.{Moves, found, moves, next, start, pos
 use Rattle.fillings.specs.Flags.{flagsOf, ruleFlags, flagsAt}
 use Rattle.fillings.proofs.Still.{possible-length, possible-hole}
 use Rattle.states.specs.Records.{at, statesOf, wordsOf, ruleWords, recordWith, packed, fresh}
-use Rattle.states.specs.Steps.{settingOf, setOf, movesAt, seenWords, afterSeen, evaluationsOf, movesBetween, unseenWords, afterUnseen}
+use Rattle.limits.specs.Limits.{settingOf}
+use Rattle.states.specs.Steps.{setOf, movesAt, seenWords, afterSeen, evaluationsOf, movesBetween, unseenWords, afterUnseen}
 use Rattle.states.specs.Readings.{allFlags}
 use Rattle.states.specs.promises.Tracking.{recordAt, ShortTimes, Tracks}
 use Rattle.states.proofs.Packing.{wordsOf-length, states-words}

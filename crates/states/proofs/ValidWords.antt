@@ -17,7 +17,7 @@ use Rattle.rules.specs.declared.Setting.{Setting}
 use Rattle.rules.specs.Evaluation.{top}
 use Rattle.states.specs.Records.{bit, at}
 use Rattle.states.specs.inner.Words.{belowWord, Below}
-use Rattle.states.specs.Steps.{settingOf}
+use Rattle.limits.specs.Limits.{settingOf}
 use Rattle.states.specs.Validity.{validSet, validRecord}
 use Rattle.states.proofs.Packing.{same-bits}
 use Rattle.states.proofs.FiveWords.{below-bits, some-none, some-word}

@@ -13,7 +13,8 @@ use Rattle.flags.specs.declared.Flag.the-variants.{Unknown}
 use Rattle.flags.specs.declared.RuleFlags.{RuleFlags}
 use Rattle.fillings.specs.Flags.{flagsOf}
 use Rattle.states.specs.Records.{at, ruleWords}
-use Rattle.states.specs.Steps.{settingOf, setOf}
+use Rattle.limits.specs.Limits.{settingOf}
+use Rattle.states.specs.Steps.{setOf}
 
 -- The flags of all sixteen rules; of a list that is not eighty words long nothing is known.
 unfoldable pub allFlags : List Setting → List ℕ → List RuleFlags

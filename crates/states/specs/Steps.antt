@@ -3,19 +3,15 @@ use Prim.Native.Nat.{ℕ, suc}
 use mathlib.Core.Bool.{Bool, cond, _&&_}
 use mathlib.Core.List.{List}
 use lib.Dec.{ltb, eqb}
-use lib.ListN.{getD, length}
+use lib.ListN.{length}
 use Rattle.rules.specs.declared.Row.{Row}
 use Rattle.rules.specs.declared.Setting.{Setting}
 use Rattle.rules.specs.declared.Readings.{Readings}
 use Rattle.rules.specs.Table.{rowAt}
-use Rattle.limits.specs.Limits.{off}
+use Rattle.limits.specs.Limits.{settingOf}
 use Rattle.rules.specs.Evaluation.{trips, clears, top, evaluated, evaluations}
 use Rattle.fillings.specs.PossibleStates.{found, next, unseenTimes}
 use Rattle.states.specs.Records.{statesOf, wordsOf, ruleWords, recordWith}
-
--- The setting of rule i.
-abbrev pub settingOf : List Setting → ℕ → Setting
-settingOf ss i = getD ss i off
 
 -- The set of rule i in a record.
 abbrev pub setOf : Setting → ℕ → List ℕ → List Bool

@@ -8,7 +8,7 @@ use Rattle.lists.specs.Lists.{someBelow, everyBelow}
 use Rattle.rules.specs.declared.Setting.{Setting}
 use Rattle.rules.specs.Evaluation.{top}
 use Rattle.states.specs.Records.{at, ruleWords}
-use Rattle.states.specs.Steps.{settingOf}
+use Rattle.limits.specs.Limits.{settingOf}
 
 -- Of rule i a state from 0 to the top is possible, and none above the top.
 abbrev pub validSet : Setting → ℕ → List ℕ → Bool

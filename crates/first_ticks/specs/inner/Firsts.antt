@@ -12,7 +12,8 @@ use Rattle.rules.specs.Evaluation.{top}
 use Rattle.flags.specs.declared.Flag.{Flag}
 use Rattle.fillings.specs.PossibleStates.{unseenTimes}
 use Rattle.fillings.specs.Flags.{flagsOf, notClear, isHeld, firstFrom}
-use Rattle.states.specs.Steps.{settingOf, setOf, evaluationsOf, afterSeen}
+use Rattle.limits.specs.Limits.{settingOf}
+use Rattle.states.specs.Steps.{setOf, evaluationsOf, afterSeen}
 use Rattle.states.specs.Readings.{statusOf}
 
 -- No tick.

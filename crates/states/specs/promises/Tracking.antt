@@ -9,7 +9,8 @@ use Rattle.fillings.specs.Fillings.{Shown, seen, unseen, Config, ruleOf}
 use Rattle.fillings.specs.PossibleStates.{possible}
 use Rattle.fillings.specs.Flags.{flagsAt}
 use Rattle.states.specs.Records.{Fit64, packed, fresh}
-use Rattle.states.specs.Steps.{settingOf, setOf, afterSeen, afterUnseen}
+use Rattle.limits.specs.Limits.{settingOf}
+use Rattle.states.specs.Steps.{setOf, afterSeen, afterUnseen}
 use Rattle.states.specs.Readings.{allFlags}
 use Rattle.states.specs.Validity.{validRecord}
 

@@ -1,0 +1,114 @@
+use Rattle.bounds.proofs.lanes.move_states.Statement.{statement}
+use Rattle.bounds.proofs.lanes.move_states.Tie as tie
+use Rattle.bounds.proofs.lanes.move_states.Reads as reads
+use Rattle.bounds.proofs.lanes.move_states.Lts as lts
+use Rattle.bounds.proofs.lanes.goes.Reads as goes-reads
+use Rattle.bounds.proofs.lanes.move_lane.Reads as move-lane-reads
+
+abbrev Inv-loop : tie.InvT-loop
+Inv-loop lanes even states₀ marks any₀ i₀ states any i = ?
+
+abbrev μ-loop : tie.MeasureT-loop
+μ-loop lanes even states₀ marks any₀ i₀ states any i = ?
+
+-- src/lanes.rt:82:5
+loop-holds : tie.Need-loop-holds Inv-loop μ-loop
+loop-holds c = ?
+
+-- src/lanes.rt:83:29
+add-goes : tie.Need-add-goes Inv-loop μ-loop
+add-goes c = ?
+
+-- src/lanes.rt:83:23
+mul-goes : tie.Need-mul-goes Inv-loop μ-loop
+mul-goes c = ?
+
+-- src/lanes.rt:83:23
+element-copy-out-goes : tie.Need-element-copy-out-goes Inv-loop μ-loop
+element-copy-out-goes c = ?
+
+-- src/lanes.rt:83:13
+goes-requires : tie.Need-goes-requires Inv-loop μ-loop
+goes-requires c κs = ?
+
+-- src/lanes.rt:84:19
+mul-top : tie.Need-mul-top Inv-loop μ-loop
+mul-top c = ?
+
+-- src/lanes.rt:84:19
+element-copy-out-top : tie.Need-element-copy-out-top Inv-loop μ-loop
+element-copy-out-top c = ?
+
+-- src/lanes.rt:85:20
+mul-trip : tie.Need-mul-trip Inv-loop μ-loop
+mul-trip c = ?
+
+-- src/lanes.rt:85:20
+array-read-trip : tie.Need-array-read-trip Inv-loop μ-loop
+array-read-trip c = ?
+
+-- src/lanes.rt:86:27
+add-clear : tie.Need-add-clear Inv-loop μ-loop
+add-clear c = ?
+
+-- src/lanes.rt:86:21
+mul-clear : tie.Need-mul-clear Inv-loop μ-loop
+mul-clear c = ?
+
+-- src/lanes.rt:86:21
+array-read-clear : tie.Need-array-read-clear Inv-loop μ-loop
+array-read-clear c = ?
+
+-- src/lanes.rt:87:13
+move-lane-requires : tie.Need-move-lane-requires Inv-loop μ-loop
+move-lane-requires c κs = ?
+
+-- src/lanes.rt:88:42
+add-move-lane : tie.Need-add-move-lane Inv-loop μ-loop
+add-move-lane c = ?
+
+-- src/lanes.rt:88:13
+move-lane-requires-2 : tie.Need-move-lane-requires-2 Inv-loop μ-loop
+move-lane-requires-2 c κs = ?
+
+-- src/lanes.rt:90:9
+add-i : tie.Need-add-i Inv-loop μ-loop
+add-i c = ?
+
+-- src/lanes.rt:82:5
+loop-less : tie.Need-loop-less Inv-loop μ-loop
+loop-less c = ?
+
+-- src/lanes.rt:82:5
+loop-again : tie.Need-loop-again Inv-loop μ-loop
+loop-again c = ?
+
+-- src/lanes.rt:71:1
+returns : tie.Need-returns Inv-loop μ-loop
+returns c = ?
+
+pub move-states-spec : {M : Type 1} → statement M
+move-states-spec =
+    tie.close
+    (tie.spec
+    Inv-loop
+    μ-loop
+    loop-holds
+    add-goes
+    mul-goes
+    element-copy-out-goes
+    goes-requires
+    mul-top
+    element-copy-out-top
+    mul-trip
+    array-read-trip
+    add-clear
+    mul-clear
+    array-read-clear
+    move-lane-requires
+    add-move-lane
+    move-lane-requires-2
+    add-i
+    loop-less
+    loop-again
+    returns)

@@ -1,0 +1,40 @@
+// The first ticks of the states.
+ghost use mathlib.Core.Path.{_≡_};
+ghost use Prim.Native.Nat.{_+_, _<_};
+ghost use lib.ListN.{getD, set};
+ghost use Rattle.bounds.specs.Lanes.{paired};
+ghost use Rattle.bounds.specs.Firsts.{noted, notedAt};
+use crate::reading::is_top;
+
+pub(crate) const NONE: u32 = 0xFFFFFFFF;
+
+// A first tick once found stays.
+pub(crate) fn note(found: u32, first: u32) -> u32
+    ensures { λ r. ⌜ r ≡ noted found first ⌝ }
+{
+    if first == NONE { found } else { first }
+}
+
+// Notes the tick of a lane whose state is at the top.
+fn note_lane(firsts: &mut [u32; 32], j: usize, tick: u32, top: u16, s: u16)
+    requires { ⌜ j < 32 ⌝ }
+    ensures { λ _. ⌜ now (firsts .exit) ≡ set (now (firsts .entry)) j (notedAt top tick s (getD (now (firsts .entry)) j 0)) ⌝ }
+{
+    let first = firsts[j];
+    if is_top(top, s) {
+        firsts[j] = note(tick, first);
+    }
+}
+
+// Notes the tick of every state that is at the top.
+pub(crate) fn note_states(lanes: &[u16; 32], tick: u32, states: &[u16; 32], firsts: &mut [u32; 32])
+    ensures { λ _. ⌜ now (firsts .exit) ≡ paired (λ i. notedAt (getD (now (lanes .entry)) i 0) tick (getD (now (states .entry)) i 0) (getD (now (firsts .entry)) i 0)) (λ i. notedAt (getD (now (lanes .entry)) i 0) tick (getD (now (states .entry)) (16 + i) 0) (getD (now (firsts .entry)) (16 + i) 0)) ⌝ }
+{
+    let mut i: usize = 0;
+    while i < 16 {
+        let top = lanes[i];
+        note_lane(firsts, i, tick, top, states[i]);
+        note_lane(firsts, 16 + i, tick, top, states[16 + i]);
+        i += 1;
+    }
+}

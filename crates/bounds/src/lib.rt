@@ -1,0 +1,128 @@
+// The least and the greatest possible state of the sixteen rules, and the first ticks of the report, which follow from them
+// (paper 01, 'Three-way outputs'). Of each rule two lanes of 16 bits are kept: the loops over all rules have no branch.
+ghost use mathlib.Core.Path.{_≡_};
+ghost use mathlib.Core.Bool.{cond};
+ghost use lib.Dec.{leb};
+ghost use Rattle.bounds.specs.Plan.{testsOf, lanesOf};
+ghost use Rattle.bounds.specs.Steps.{statesSeen, statesMissed, flagsOfStates};
+ghost use Rattle.bounds.specs.Firsts.{firstsSeen, firstsMissed};
+
+mod firsts;
+mod lanes;
+mod marks;
+mod reading;
+mod unseen;
+
+use firsts::note_states;
+use flags::Flag;
+use flags::Flags;
+use flags::RuleFlags;
+use lanes::move_states;
+use marks::marks_of;
+use reading::number_along;
+use reading::rule_flags;
+use reading::towards_recoveries;
+use reading::towards_thresholds;
+use rules::Readings;
+use rules::Settings;
+use unseen::miss_rule;
+
+// The thresholds of the rules, then their recoveries, each as the side of its rule reads it.
+pub fn tests_of(settings: Settings) -> [i32; 32]
+    ensures { λ r. ⌜ r ≡ testsOf (settings .of) ⌝ }
+{
+    let table = rules::all_rows();
+    let mut tests: [i32; 32] = [0; 32];
+    let mut i: usize = 0;
+    while i < 16 {
+        let setting = settings.of[i];
+        let row = table.of[i];
+        let side = row.side;
+        tests[i] = number_along(side, setting.threshold);
+        tests[16 + i] = number_along(side, setting.recovery);
+        i += 1;
+    }
+    tests
+}
+
+// The top states of the rules, then 1 for each that is evaluated at every tick.
+pub fn lanes_of(settings: Settings) -> [u16; 32]
+    ensures { λ r. ⌜ r ≡ lanesOf (settings .of) ⌝ }
+{
+    let table = rules::all_rows();
+    let mut lanes: [u16; 32] = [0; 32];
+    let mut i: usize = 0;
+    while i < 16 {
+        let setting = settings.of[i];
+        let row = table.of[i];
+        lanes[i] = lanes::top_lane(setting.time);
+        lanes[16 + i] = lanes::every_lane(row.even);
+        i += 1;
+    }
+    lanes
+}
+
+// Moves the states by a seen tick, where they stand, and notes the first ticks. Readings whose sum no pack has change nothing.
+pub fn see(
+    tests: &[i32; 32],
+    lanes: &[u16; 32],
+    idle: u16,
+    tick: u32,
+    r: Readings,
+    states: &mut [u16; 32],
+    firsts: &mut [u32; 32],
+)
+    ensures states { λ _. ⌜ now (states .exit) ≡ cond (leb (r .«sum_of_cells») 2147483647) (statesSeen (now (tests .entry)) (now (lanes .entry)) idle tick r (now (states .entry))) (now (states .entry)) ⌝ }
+    ensures firsts { λ _. ⌜ now (firsts .exit) ≡ cond (leb (r .«sum_of_cells») 2147483647) (firstsSeen (now (lanes .entry)) tick (now (states .entry)) (now (states .exit)) (now (firsts .entry))) (now (firsts .entry)) ⌝ }
+{
+    if 2147483647 < r.sum_of_cells {
+        return;
+    }
+    let up = towards_thresholds(idle, r);
+    let down = towards_recoveries(r);
+    let marks = marks_of(up, down, tests);
+    if move_states(marks, lanes, tick % 2 == 0, states) {
+        note_states(lanes, tick, states, firsts);
+    }
+}
+
+// Moves the states by the unseen ticks from first to last, where they stand, and notes the first ticks.
+pub fn miss(
+    lanes: &[u16; 32],
+    first: u32,
+    last: u32,
+    states: &mut [u16; 32],
+    firsts: &mut [u32; 32],
+)
+    ensures states { λ _. ⌜ now (states .exit) ≡ statesMissed (now (lanes .entry)) first last (now (states .entry)) ⌝ }
+    ensures firsts { λ _. ⌜ now (firsts .exit) ≡ firstsMissed (now (lanes .entry)) first last (now (states .entry)) (now (firsts .entry)) ⌝ }
+{
+    let table = rules::all_rows();
+    let mut i: usize = 0;
+    while i < 16 {
+        let row = table.of[i];
+        let top = lanes[i];
+        miss_rule(row, i, top, first, last, states, firsts);
+        i += 1;
+    }
+}
+
+// The alert and the status of every rule.
+pub fn flags_in(lanes: &[u16; 32], states: &[u16; 32]) -> Flags
+    ensures { λ r. ⌜ r .of ≡ flagsOfStates (now (lanes .entry)) (now (states .entry)) ⌝ }
+{
+    let unknown = RuleFlags {
+        alert: Flag::Unknown,
+        status: Flag::Unknown,
+    };
+    let mut flags = Flags { of: [unknown; 16] };
+    let mut i: usize = 0;
+    while i < 16 {
+        let top = lanes[i];
+        let least = states[i];
+        let greatest = states[16 + i];
+        flags.of[i] = rule_flags(top, least, greatest);
+        i += 1;
+    }
+    flags
+}

@@ -1,0 +1,92 @@
+// A run of unseen ticks of one rule.
+ghost use mathlib.Core.Path.{_≡_};
+ghost use Prim.Native.Nat.{suc, _+_, _-_, _<_, _≤_};
+ghost use lib.ListN.{getD, set};
+ghost use Rattle.rules.specs.Table.{rowAt};
+ghost use Rattle.rules.specs.Evaluation.{evaluations};
+ghost use Rattle.bounds.specs.Steps.{leastMissed, greatestMissed, evaluationsOf};
+ghost use Rattle.bounds.specs.Firsts.{noted, tickOf, topTick};
+use crate::firsts::NONE;
+use crate::firsts::note;
+use rules::Row;
+
+// A least state after n unseen evaluations.
+fn least_missed(top: u16, recovers: bool, n: u64, s: u16) -> u16
+    ensures { λ r. ⌜ r ≡ leastMissed top recovers n s ⌝ }
+{
+    if n == 0 {
+        return s;
+    }
+    if s < top {
+        return 0;
+    }
+    if recovers {
+        return 0;
+    }
+    top
+}
+
+// A greatest state after n unseen evaluations.
+fn greatest_missed(top: u16, n: u64, s: u16) -> u16
+    ensures { λ r. ⌜ r ≡ greatestMissed top n s ⌝ }
+{
+    if n == 0 {
+        return s;
+    }
+    if s < top {
+        if n < (top - s) as u64 {
+            return s + n as u16;
+        }
+    }
+    top
+}
+
+// The tick of evaluation j from tick first on.
+fn tick_of(row: Row, first: u32, j: u16) -> u64
+    requires { ⌜ 0 < j ⌝ }
+    ensures { λ t. ⌜ t ≡ tickOf row first j ⌝ }
+{
+    let a = first as u64;
+    let n = j as u64;
+    if row.even {
+        return a + a % 2 + 2 * (n - 1);
+    }
+    a + (n - 1)
+}
+
+// The tick at which n unseen evaluations from first to last bring a greatest state to the top, or none: one subtraction.
+fn top_tick(row: Row, top: u16, first: u32, last: u32, n: u64, s: u16) -> u32
+    requires { ⌜ n ≡ evaluations row first (suc last) ⌝ }
+    ensures { λ r. ⌜ r ≡ topTick row top first n s ⌝ }
+{
+    if s < top {
+        let j = top - s;
+        if j as u64 <= n {
+            return tick_of(row, first, j) as u32;
+        }
+    }
+    NONE
+}
+
+// Moves the states of rule i by the unseen ticks from first to last, and notes the tick at which the greatest comes to the top.
+pub(crate) fn miss_rule(
+    row: Row,
+    i: usize,
+    top: u16,
+    first: u32,
+    last: u32,
+    states: &mut [u16; 32],
+    firsts: &mut [u32; 32],
+)
+    requires { ⌜ i < 16 ⌝ }
+    ensures states { λ _. ⌜ now (states .exit) ≡ set (set (now (states .entry)) i (leastMissed top (row .recovers) (evaluations row first (suc last)) (getD (now (states .entry)) i 0))) (16 + i) (greatestMissed top (evaluations row first (suc last)) (getD (now (states .entry)) (16 + i) 0)) ⌝ }
+    ensures firsts { λ _. ⌜ now (firsts .exit) ≡ set (now (firsts .entry)) (16 + i) (noted (topTick row top first (evaluations row first (suc last)) (getD (now (states .entry)) (16 + i) 0)) (getD (now (firsts .entry)) (16 + i) 0)) ⌝ }
+{
+    let n = rules::evaluations_in(row, first, last);
+    let least = states[i];
+    let greatest = states[16 + i];
+    let known = firsts[16 + i];
+    states[i] = least_missed(top, row.recovers, n, least);
+    states[16 + i] = greatest_missed(top, n, greatest);
+    firsts[16 + i] = note(top_tick(row, top, first, last, n, greatest), known);
+}
