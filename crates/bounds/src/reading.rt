@@ -4,7 +4,7 @@ ghost use mathlib.Core.Bool.{cond};
 ghost use Prim.Native.Nat.{_≤_};
 ghost use lib.IntN.{pos};
 ghost use Rattle.rules.specs.Evaluation.{status};
-ghost use Rattle.rules.specs.Table.{rowAt};
+ghost use Rattle.rules.specs.declared.Row.{Row};
 ghost use Rattle.fillings.specs.Bounds.{flagsBetween};
 ghost use Rattle.rules.specs.declared.Side.the-variants.{Low};
 ghost use Rattle.bounds.specs.Plan.{along};
@@ -142,7 +142,7 @@ pub(crate) fn is_top(top: u16, s: u16) -> bool
 
 // The flags of a rule, from its least and its greatest state.
 pub(crate) fn rule_flags(top: u16, least: u16, greatest: u16) -> RuleFlags
-    ensures { λ r. ⌜ r ≡ flagsBetween (rowAt 0) top least greatest ⌝ }
+    ensures { λ r. ⌜ ((row : Row) → r ≡ flagsBetween row top least greatest) ⌝ }
 {
     RuleFlags {
         alert: flags::flag_of(0 < greatest, !(0 < least)),

@@ -1,28 +1,28 @@
+use Rattle.rules.specs.Evaluation.{step}
+use borrow.Author.Tests.{lt-ltb, le-ltb}
+use native.Mathlib.Numerals.{add-one}
 use borrow.Author.Needs.{needs}
 use Rattle.bounds.proofs.lanes.stepped.Statement.{statement}
 use Rattle.bounds.proofs.lanes.stepped.Tie as tie
-use Rattle.bounds.proofs.lanes.stepped.Reads as reads
-use Rattle.bounds.proofs.lanes.stepped.Lts as lts
 
--- src/lanes.rt:39:23
 add-result : tie.Need-add-result
 add-result c = search needs
 
--- src/lanes.rt:35:1
 returns : tie.Need-returns
-returns c = ?
+unfolding step
+returns c = rw (lt-ltb _ _ (c .before .if1 .taken), lt-ltb _ _ (c .if2 .taken)) (add-one _)
 
--- src/lanes.rt:35:1
 returns-2 : tie.Need-returns-2
-returns-2 c = ?
+unfolding step
+returns-2 c = rw (lt-ltb _ _ (c .before .if1 .taken), le-ltb _ _ (c .if2 .left))
 
--- src/lanes.rt:35:1
 returns-3 : tie.Need-returns-3
-returns-3 c = ?
+unfolding step
+returns-3 c = rw (le-ltb _ _ (c .before .if1 .left), lt-ltb _ _ (c .if3 .taken))
 
--- src/lanes.rt:35:1
 returns-4 : tie.Need-returns-4
-returns-4 c = ?
+unfolding step
+returns-4 c = rw (le-ltb _ _ (c .before .if1 .left), le-ltb _ _ (c .if3 .left))
 
 pub stepped-spec : {M : Type 1} → statement M
 stepped-spec = tie.close (tie.spec add-result returns returns-2 returns-3 returns-4)

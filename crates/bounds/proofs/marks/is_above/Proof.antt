@@ -1,17 +1,15 @@
+use Rattle.bounds.proofs.Numbers.{none-below, none-above}
+use mir.Syntax.{w32}
+use mir.Facts.{toZ-ofZ}
 use borrow.Author.Needs.{needs}
 use Rattle.bounds.proofs.marks.is_above.Statement.{statement}
 use Rattle.bounds.proofs.marks.is_above.Tie as tie
-use Rattle.bounds.proofs.marks.is_above.Reads as reads
-use Rattle.bounds.proofs.marks.is_above.Lts as lts
-use Rattle.bounds.proofs.marks.mark_of.Reads as mark-of-reads
 
--- src/marks.rt:22:5
 mark-of-requires : tie.Need-mark-of-requires
 mark-of-requires c κs = search needs
 
--- src/marks.rt:17:1
 returns : tie.Need-returns
-returns c = ?
+returns c = (rw (toZ-ofZ {w = w32} (c .before .fits .limit), toZ-ofZ {w = w32} (c .before .fits .v)) at (c .mark-of .ensures), (none-below _ (c .before .fits .limit), none-above _ (c .before .fits .v)))
 
 pub is-above-spec : {M : Type 1} → statement M
 is-above-spec = tie.close (tie.spec mark-of-requires returns)

@@ -1,16 +1,15 @@
+use native.Mathlib.Omega.{arith}
+use mir.Facts.{toZ-pos}
+use mir.Syntax.{w32}
 use borrow.Author.Needs.{needs}
 use Rattle.bounds.proofs.reading.of_u16.Statement.{statement}
 use Rattle.bounds.proofs.reading.of_u16.Tie as tie
-use Rattle.bounds.proofs.reading.of_u16.Reads as reads
-use Rattle.bounds.proofs.reading.of_u16.Lts as lts
 
--- src/reading.rt:40:5
 cast-result : tie.Need-cast-result
 cast-result c = search needs
 
--- src/reading.rt:37:1
 returns : tie.Need-returns
-returns c = ?
+returns c = toZ-pos w32 (omega (arith, c .fits .v))
 
 pub of-u16-spec : {M : Type 1} → statement M
 of-u16-spec = tie.close (tie.spec cast-result returns)

@@ -1,60 +1,67 @@
+use mir.Val.{SFits}
+use mir.Facts.{toZ-ofZ}
+use Rattle.bounds.proofs.Values.{told, back-are}
+use Rattle.bounds.specs.Plan.{along}
+use Rattle.rules.specs.declared.Side.the-variants.{Low}
+use mir.Syntax.{w16, w32}
+use mathlib.Core.Path.{ap, _∙_}
 use borrow.Author.Needs.{needs}
 use Rattle.bounds.proofs.reading.towards_recoveries.Statement.{statement}
 use Rattle.bounds.proofs.reading.towards_recoveries.Tie as tie
-use Rattle.bounds.proofs.reading.towards_recoveries.Reads as reads
-use Rattle.bounds.proofs.reading.towards_recoveries.Lts as lts
-use Rattle.bounds.proofs.reading.mirrored.Reads as mirrored-reads
-use Rattle.bounds.proofs.reading.of_i16.Reads as of-i16-reads
-use Rattle.bounds.proofs.reading.of_sum.Reads as of-sum-reads
-use Rattle.bounds.proofs.reading.of_u16.Reads as of-u16-reads
 
--- src/reading.rt:107:9
 of-u16-requires : tie.Need-of-u16-requires
 of-u16-requires c κs = search needs
 
--- src/reading.rt:108:24
 of-u16-requires-2 : tie.Need-of-u16-requires-2
 of-u16-requires-2 c κs = search needs
 
--- src/reading.rt:108:9
 mirrored-requires : tie.Need-mirrored-requires
 mirrored-requires c κs = search needs
 
--- src/reading.rt:109:9
 of-sum-requires : tie.Need-of-sum-requires
 of-sum-requires c κs = search needs
 
--- src/reading.rt:110:9
 mirrored-requires-2 : tie.Need-mirrored-requires-2
 mirrored-requires-2 c κs = search needs
 
--- src/reading.rt:111:9
 of-i16-requires : tie.Need-of-i16-requires
 of-i16-requires c κs = search needs
 
--- src/reading.rt:112:9
 mirrored-requires-3 : tie.Need-mirrored-requires-3
 mirrored-requires-3 c κs = search needs
 
--- src/reading.rt:113:9
 of-i16-requires-2 : tie.Need-of-i16-requires-2
 of-i16-requires-2 c κs = search needs
 
--- src/reading.rt:114:9
 of-i16-requires-3 : tie.Need-of-i16-requires-3
 of-i16-requires-3 c κs = search needs
 
--- src/reading.rt:115:25
 of-i16-requires-4 : tie.Need-of-i16-requires-4
 of-i16-requires-4 c κs = search needs
 
--- src/reading.rt:115:9
 mirrored-requires-4 : tie.Need-mirrored-requires-4
 mirrored-requires-4 c κs = search needs
 
--- src/reading.rt:103:1
 returns : tie.Need-returns
-returns c = ?
+returns c =
+    let fc : SFits w16 (c .before .before .before .before .before .before .before .before .before .before .before .before .before .before .before .args .r .current) = search needs in
+    let fw : SFits w16 (c .before .before .before .before .before .before .before .before .before .before .before .before .before .before .before .args .r .«highest_temp») = search needs in
+    let fb : SFits w16 (c .before .before .before .before .before .before .before .before .before .before .before .before .before .before .before .args .r .board) = search needs in
+    let fl : SFits w16 (c .before .before .before .before .before .before .before .before .before .before .before .before .before .before .before .args .r .«lowest_temp») = search needs in
+    let sum = told {w = w32} (search (c .before .before .before .before .before .before .before .before .before .before .before .of-sum .ok)) (c .before .before .before .before .before .before .before .before .before .before .before .of-sum .ensures) in
+    let current = told {w = w32} (search (c .before .before .before .before .before .before .before .before .of-i16 .ok)) (c .before .before .before .before .before .before .before .before .of-i16 .ensures ∙ toZ-ofZ fc) in
+    let warm = told {w = w32} (search (c .before .before .before .before .before .of-i162 .ok)) (c .before .before .before .before .before .of-i162 .ensures ∙ toZ-ofZ fw) in
+    let cold = told {w = w32} (search (c .mirrored4 .ok)) (c .mirrored4 .ensures ∙ ap (along Low) (told {w = w32} (search (c .before .of-i164 .ok)) (c .before .of-i164 .ensures ∙ toZ-ofZ fl))) in
+    back-are (c .before .before .before .before .before .before .before .before .before .before .before .before .before .before .before .args .r)
+    (told {w = w32} (search (c .before .before .before .before .before .before .before .before .before .before .before .before .before .before .of-u16 .ok)) (c .before .before .before .before .before .before .before .before .before .before .before .before .before .before .of-u16 .ensures))
+    (told {w = w32} (search (c .before .before .before .before .before .before .before .before .before .before .before .before .mirrored .ok)) (c .before .before .before .before .before .before .before .before .before .before .before .before .mirrored .ensures ∙ ap (along Low) (told {w = w32} (search (c .before .before .before .before .before .before .before .before .before .before .before .before .before .of-u162 .ok)) (c .before .before .before .before .before .before .before .before .before .before .before .before .before .of-u162 .ensures))))
+    sum
+    (told {w = w32} (search (c .before .before .before .before .before .before .before .before .before .before .mirrored2 .ok)) (c .before .before .before .before .before .before .before .before .before .before .mirrored2 .ensures ∙ ap (along Low) sum))
+    current
+    (told {w = w32} (search (c .before .before .before .before .before .before .before .mirrored3 .ok)) (c .before .before .before .before .before .before .before .mirrored3 .ensures ∙ ap (along Low) current))
+    (told {w = w32} (search (c .before .before .before .of-i163 .ok)) (c .before .before .before .of-i163 .ensures ∙ toZ-ofZ fb))
+    warm
+    cold
 
 pub towards-recoveries-spec : {M : Type 1} → statement M
 towards-recoveries-spec =

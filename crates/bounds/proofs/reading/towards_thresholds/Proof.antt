@@ -1,92 +1,97 @@
+use mir.Val.{SFits}
+use mathlib.Core.Bool.{Bool, cond}
+use lib.IntN.{ℤ, pos, negℤ}
+use lib.Signed.{ltZ}
+use Rattle.bounds.specs.inner.Marks.{least32}
+use mir.Facts.{toZ-ofZ}
+use Rattle.bounds.proofs.Values.{told, towards-are}
+use Rattle.bounds.specs.Plan.{along}
+use Rattle.rules.specs.declared.Side.the-variants.{Low}
+use mir.Syntax.{w16, w32}
+use mathlib.Core.Path.{ap, ap₂, _∙_}
 use borrow.Author.Needs.{needs}
 use Rattle.bounds.proofs.reading.towards_thresholds.Statement.{statement}
 use Rattle.bounds.proofs.reading.towards_thresholds.Tie as tie
-use Rattle.bounds.proofs.reading.towards_thresholds.Reads as reads
-use Rattle.bounds.proofs.reading.towards_thresholds.Lts as lts
-use Rattle.bounds.proofs.reading.counted.Reads as counted-reads
-use Rattle.bounds.proofs.reading.mirrored.Reads as mirrored-reads
-use Rattle.bounds.proofs.reading.of_i16.Reads as of-i16-reads
-use Rattle.bounds.proofs.reading.of_sum.Reads as of-sum-reads
-use Rattle.bounds.proofs.reading.of_u16.Reads as of-u16-reads
-use Rattle.rules.proofs.charges.Reads as charges-reads
-use Rattle.rules.proofs.difference.Reads as difference-reads
-use Rattle.rules.proofs.discharges.Reads as discharges-reads
 
--- src/reading.rt:68:9
 charges-requires : tie.Need-charges-requires
 charges-requires c κs = search needs
 
--- src/reading.rt:69:9
 discharges-requires : tie.Need-discharges-requires
 discharges-requires c κs = search needs
 
--- src/reading.rt:70:9
 of-u16-requires : tie.Need-of-u16-requires
 of-u16-requires c κs = search needs
 
--- src/reading.rt:71:24
 of-u16-requires-2 : tie.Need-of-u16-requires-2
 of-u16-requires-2 c κs = search needs
 
--- src/reading.rt:71:9
 mirrored-requires : tie.Need-mirrored-requires
 mirrored-requires c κs = search needs
 
--- src/reading.rt:72:9
 of-sum-requires : tie.Need-of-sum-requires
 of-sum-requires c κs = search needs
 
--- src/reading.rt:73:9
 mirrored-requires-2 : tie.Need-mirrored-requires-2
 mirrored-requires-2 c κs = search needs
 
--- src/reading.rt:74:9
 of-i16-requires : tie.Need-of-i16-requires
 of-i16-requires c κs = search needs
 
--- src/reading.rt:75:9
 mirrored-requires-3 : tie.Need-mirrored-requires-3
 mirrored-requires-3 c κs = search needs
 
--- src/reading.rt:76:9
 of-i16-requires-2 : tie.Need-of-i16-requires-2
 of-i16-requires-2 c κs = search needs
 
--- src/reading.rt:77:9
 counted-requires : tie.Need-counted-requires
 counted-requires c κs = search needs
 
--- src/reading.rt:78:9
 counted-requires-2 : tie.Need-counted-requires-2
 counted-requires-2 c κs = search needs
 
--- src/reading.rt:79:9
 of-i16-requires-3 : tie.Need-of-i16-requires-3
 of-i16-requires-3 c κs = search needs
 
--- src/reading.rt:80:46
 of-i16-requires-4 : tie.Need-of-i16-requires-4
 of-i16-requires-4 c κs = search needs
 
--- src/reading.rt:80:37
 mirrored-requires-4 : tie.Need-mirrored-requires-4
 mirrored-requires-4 c κs = search needs
 
--- src/reading.rt:80:9
 counted-requires-3 : tie.Need-counted-requires-3
 counted-requires-3 c κs = search needs
 
--- src/reading.rt:81:24
 difference-requires : tie.Need-difference-requires
 difference-requires c κs = search needs
 
--- src/reading.rt:81:9
 of-u16-requires-3 : tie.Need-of-u16-requires-3
 of-u16-requires-3 c κs = search needs
 
--- src/reading.rt:64:1
 returns : tie.Need-returns
-returns c = ?
+returns c =
+    let fc : SFits w16 (c .before .before .before .before .before .before .before .before .before .before .before .before .before .before .before .before .before .before .before .before .before .before .before .before .args .r .current) = search needs in
+    let fw : SFits w16 (c .before .before .before .before .before .before .before .before .before .before .before .before .before .before .before .before .before .before .before .before .before .before .before .before .args .r .«highest_temp») = search needs in
+    let fb : SFits w16 (c .before .before .before .before .before .before .before .before .before .before .before .before .before .before .before .before .before .before .before .before .before .before .before .before .args .r .board) = search needs in
+    let fl : SFits w16 (c .before .before .before .before .before .before .before .before .before .before .before .before .before .before .before .before .before .before .before .before .before .before .before .before .args .r .«lowest_temp») = search needs in
+    let sum = told {w = w32} (search (c .before .before .before .before .before .before .before .before .before .before .before .before .before .before .before .before .of-sum .ok)) (c .before .before .before .before .before .before .before .before .before .before .before .before .before .before .before .before .of-sum .ensures) in
+    let current = told {w = w32} (search (c .before .before .before .before .before .before .before .before .before .before .before .before .before .of-i16 .ok)) (c .before .before .before .before .before .before .before .before .before .before .before .before .before .of-i16 .ensures ∙ toZ-ofZ fc) in
+    let warm = told {w = w32} (search (c .before .before .before .before .before .before .before .before .before .before .of-i162 .ok)) (c .before .before .before .before .before .before .before .before .before .before .of-i162 .ensures ∙ toZ-ofZ fw) in
+    let cold = told {w = w32} (search (c .before .before .before .mirrored4 .ok)) (c .before .before .before .mirrored4 .ensures ∙ ap (along Low) (told {w = w32} (search (c .before .before .before .before .of-i164 .ok)) (c .before .before .before .before .of-i164 .ensures ∙ toZ-ofZ fl))) in
+    let charging = c .before .before .before .before .before .before .before .before .before .before .before .before .before .before .before .before .before .before .before .before .before .before .charges .ensures ∙ ap (ltZ (pos (c .before .before .before .before .before .before .before .before .before .before .before .before .before .before .before .before .before .before .before .before .before .before .before .before .args .idle))) (toZ-ofZ fc) in
+    let discharging = c .before .before .before .before .before .before .before .before .before .before .before .before .before .before .before .before .before .before .before .before .discharges .ensures ∙ ap (λ (z : ℤ). ltZ z (negℤ (pos (c .before .before .before .before .before .before .before .before .before .before .before .before .before .before .before .before .before .before .before .before .before .before .before .before .args .idle)))) (toZ-ofZ fc) in
+    towards-are (c .before .before .before .before .before .before .before .before .before .before .before .before .before .before .before .before .before .before .before .before .before .before .before .before .args .r)
+    (told {w = w32} (search (c .before .before .before .before .before .before .before .before .before .before .before .before .before .before .before .before .before .before .before .of-u16 .ok)) (c .before .before .before .before .before .before .before .before .before .before .before .before .before .before .before .before .before .before .before .of-u16 .ensures))
+    (told {w = w32} (search (c .before .before .before .before .before .before .before .before .before .before .before .before .before .before .before .before .before .mirrored .ok)) (c .before .before .before .before .before .before .before .before .before .before .before .before .before .before .before .before .before .mirrored .ensures ∙ ap (along Low) (told {w = w32} (search (c .before .before .before .before .before .before .before .before .before .before .before .before .before .before .before .before .before .before .of-u162 .ok)) (c .before .before .before .before .before .before .before .before .before .before .before .before .before .before .before .before .before .before .of-u162 .ensures))))
+    sum
+    (told {w = w32} (search (c .before .before .before .before .before .before .before .before .before .before .before .before .before .before .before .mirrored2 .ok)) (c .before .before .before .before .before .before .before .before .before .before .before .before .before .before .before .mirrored2 .ensures ∙ ap (along Low) sum))
+    current
+    (told {w = w32} (search (c .before .before .before .before .before .before .before .before .before .before .before .before .mirrored3 .ok)) (c .before .before .before .before .before .before .before .before .before .before .before .before .mirrored3 .ensures ∙ ap (along Low) current))
+    (told {w = w32} (search (c .before .before .before .before .before .before .of-i163 .ok)) (c .before .before .before .before .before .before .of-i163 .ensures ∙ toZ-ofZ fb))
+    (c .before .before .before .before .before .before .before .before .before .before .before .before .before .before .before .before .before .before .before .before .before .before .before .before .args .idle)
+    (told {w = w32} (search (c .before .before .before .before .before .before .before .before .before .counted .ok)) (c .before .before .before .before .before .before .before .before .before .counted .ensures ∙ ap₂ (λ (b : Bool) (z : ℤ). cond b z least32) charging warm))
+    (told {w = w32} (search (c .before .before .before .before .before .before .before .before .counted2 .ok)) (c .before .before .before .before .before .before .before .before .counted2 .ensures ∙ ap₂ (λ (b : Bool) (z : ℤ). cond b z least32) discharging warm))
+    (told {w = w32} (search (c .before .before .counted3 .ok)) (c .before .before .counted3 .ensures ∙ ap₂ (λ (b : Bool) (z : ℤ). cond b z least32) discharging cold))
+    (told {w = w32} (search (c .of-u163 .ok)) (c .of-u163 .ensures ∙ ap pos (c .before .difference .ensures)))
 
 pub towards-thresholds-spec : {M : Type 1} → statement M
 towards-thresholds-spec =
