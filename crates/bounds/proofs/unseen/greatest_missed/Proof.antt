@@ -1,40 +1,34 @@
+use Prim.Native.Nat.{_+_, min}
+use mathlib.Core.Path.{_≡_}
+use native.Mathlib.Omega.{arith}
+use borrow.Author.Tests.{eq-eqb, ne-eqb}
 use borrow.Author.Needs.{needs}
 use Rattle.bounds.proofs.unseen.greatest_missed.Statement.{statement}
 use Rattle.bounds.proofs.unseen.greatest_missed.Tie as tie
-use Rattle.bounds.proofs.unseen.greatest_missed.Reads as reads
-use Rattle.bounds.proofs.unseen.greatest_missed.Lts as lts
 
--- src/unseen.rt:34:9
 returns : tie.Need-returns
-returns c = ?
+returns c = rw (eq-eqb _ _ (c .if1 .taken))
 
--- src/unseen.rt:37:17
 sub-if3 : tie.Need-sub-if3
 sub-if3 c = search needs
 
--- src/unseen.rt:37:16
 cast-if3 : tie.Need-cast-if3
 cast-if3 c = search needs
 
--- src/unseen.rt:38:24
 cast-result : tie.Need-cast-result
 cast-result c = search needs
 
--- src/unseen.rt:38:20
 add-result : tie.Need-add-result
 add-result c = search needs
 
--- src/unseen.rt:38:13
 returns-2 : tie.Need-returns-2
-returns-2 c = ?
+returns-2 c = let e : c .before .before .before .args .s + c .before .before .before .args .n ≡ min (c .before .before .before .args .s + c .before .before .before .args .n) (c .before .before .before .args .top) = omega (arith, c .before .if2 .taken, c .if3 .taken) in rw (ne-eqb _ _ (c .before .before .if1 .left)) e
 
--- src/unseen.rt:30:1
 returns-3 : tie.Need-returns-3
-returns-3 c = ?
+returns-3 c = let e : c .before .before .before .args .top ≡ min (c .before .before .before .args .s + c .before .before .before .args .n) (c .before .before .before .args .top) = omega (arith, c .before .if2 .taken, c .if3 .left) in rw (ne-eqb _ _ (c .before .before .if1 .left)) e
 
--- src/unseen.rt:30:1
 returns-4 : tie.Need-returns-4
-returns-4 c = ?
+returns-4 c = let e : c .before .before .args .top ≡ min (c .before .before .args .s + c .before .before .args .n) (c .before .before .args .top) = omega (arith, c .if2 .left) in rw (ne-eqb _ _ (c .before .if1 .left)) e
 
 pub greatest-missed-spec : {M : Type 1} → statement M
 greatest-missed-spec =

@@ -1,23 +1,22 @@
+use Rattle.rules.specs.Evaluation.{step}
+use borrow.Author.Tests.{eq-eqb, ne-eqb, lt-ltb, le-ltb}
 use Rattle.bounds.proofs.unseen.least_missed.Statement.{statement}
 use Rattle.bounds.proofs.unseen.least_missed.Tie as tie
-use Rattle.bounds.proofs.unseen.least_missed.Reads as reads
-use Rattle.bounds.proofs.unseen.least_missed.Lts as lts
 
--- src/unseen.rt:18:9
 returns : tie.Need-returns
-returns c = ?
+returns c = rw (eq-eqb _ _ (c .if1 .taken))
 
--- src/unseen.rt:21:9
 returns-2 : tie.Need-returns-2
-returns-2 c = ?
+unfolding step
+returns-2 c = rw (ne-eqb _ _ (c .before .if1 .left), lt-ltb _ _ (c .if2 .taken))
 
--- src/unseen.rt:24:9
 returns-3 : tie.Need-returns-3
-returns-3 c = ?
+unfolding step
+returns-3 c = rw (ne-eqb _ _ (c .before .before .if1 .left), le-ltb _ _ (c .before .if2 .left), c .if3 .taken)
 
--- src/unseen.rt:14:1
 returns-4 : tie.Need-returns-4
-returns-4 c = ?
+unfolding step
+returns-4 c = rw (ne-eqb _ _ (c .before .before .if1 .left), le-ltb _ _ (c .before .if2 .left), c .if3 .left)
 
 pub least-missed-spec : {M : Type 1} → statement M
 least-missed-spec = tie.close (tie.spec returns returns-2 returns-3 returns-4)
