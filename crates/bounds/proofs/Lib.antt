@@ -1,2 +1,6 @@
 pub mod Numbers
 pub mod Values
+pub mod Paired
+pub mod Pairing
+pub mod FirstLaws
+pub mod RunTicks
