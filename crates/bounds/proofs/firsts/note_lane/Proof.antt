@@ -1,42 +1,37 @@
+use Rattle.bounds.proofs.FirstLaws.{noted-same}
+use Rattle.bounds.specs.Firsts.{none, noted}
+use lib.Seq.{set-getD}
+use lib.ListN.{set, getD}
+use mathlib.Core.Bool.{Bool, cond}
+use mathlib.Core.Path.{ap, sym, _∙_}
+use Prim.Native.Nat.{ℕ}
 use borrow.Author.Needs.{needs}
 use Rattle.bounds.proofs.firsts.note_lane.Statement.{statement}
 use Rattle.bounds.proofs.firsts.note_lane.Tie as tie
-use Rattle.bounds.proofs.firsts.note_lane.Reads as reads
-use Rattle.bounds.proofs.firsts.note_lane.Lts as lts
-use Rattle.bounds.proofs.firsts.note.Reads as note-reads
-use Rattle.bounds.proofs.reading.is_top.Reads as is-top-reads
 
--- src/firsts.rt:23:17
 mul-first : tie.Need-mul-first
 mul-first c = search needs
 
--- src/firsts.rt:23:17
 element-copy-out-first : tie.Need-element-copy-out-first
 element-copy-out-first c = search needs
 
--- src/firsts.rt:24:8
 is-top-requires : tie.Need-is-top-requires
 is-top-requires c κs = search needs
 
--- src/firsts.rt:25:21
 note-requires : tie.Need-note-requires
 note-requires c κs = search needs
 
--- src/firsts.rt:25:9
 mul-firsts : tie.Need-mul-firsts
 mul-firsts c = search needs
 
--- src/firsts.rt:25:9
 element-write-firsts : tie.Need-element-write-firsts
 element-write-firsts c = search needs
 
--- src/firsts.rt:19:1
 returns : tie.Need-returns
-returns c = ?
+returns c = ap (set (c .before .before .before .before .args .firsts .now) (c .before .before .before .before .args .j)) (c .note .ensures ∙ ap (λ (b : Bool). noted (cond b (c .before .before .before .before .args .tick) none) (getD (c .before .before .before .before .args .firsts .now) (c .before .before .before .before .args .j) 0)) (sym (c .before .if1 .taken) ∙ c .before .before .is-top .ensures))
 
--- src/firsts.rt:19:1
 returns-2 : tie.Need-returns-2
-returns-2 c = ?
+returns-2 c = sym (ap (λ (b : Bool). set (c .before .before .before .args .firsts .now) (c .before .before .before .args .j) (noted (cond b (c .before .before .before .args .tick) none) (getD (c .before .before .before .args .firsts .now) (c .before .before .before .args .j) 0))) (sym (c .before .is-top .ensures) ∙ c .if1 .left) ∙ ap (set (c .before .before .before .args .firsts .now) (c .before .before .before .args .j)) (noted-same _) ∙ set-getD (c .before .before .before .args .firsts .now) (c .before .before .before .args .j) 0)
 
 pub note-lane-spec : {M : Type 1} → statement M
 note-lane-spec =

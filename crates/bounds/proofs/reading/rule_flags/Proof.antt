@@ -1,3 +1,7 @@
+use Rattle.flags.specs.Flags.{flagOf}
+use Rattle.flags.specs.declared.RuleFlags.{RuleFlags}
+use Rattle.flags.specs.declared.Flag.{Flag}
+use mathlib.Core.Bool.{Bool, not}
 use mathlib.Core.Bool.{not}
 use mathlib.Core.Path.{ap₂, _∙_}
 use borrow.Author.Needs.{needs}
@@ -17,7 +21,7 @@ flag-of-requires-2 : tie.Need-flag-of-requires-2
 flag-of-requires-2 c κs = search needs
 
 returns : tie.Need-returns
-returns c = ?
+returns c = λ row. ap₂ (λ (a s : Flag). record { alert = a; status = s }) (c .before .before .before .flag-of .ensures) (c .flag-of2 .ensures ∙ ap₂ (λ (a b : Bool). flagOf a (not b)) (c .before .before .is-top .ensures) (c .before .is-top2 .ensures))
 
 pub rule-flags-spec : {M : Type 1} → statement M
 rule-flags-spec =
