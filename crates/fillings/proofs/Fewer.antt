@@ -21,7 +21,7 @@ pub record Among (w v : Moves) : Type 0 where
 pub among-itself : (w : Moves) → Among w w
 among-itself w = record { up = λ t. t; restart = λ t. t; leave = λ t. t; stay = λ t. t }
 
-only-recovering : (r : Rule) (x : Sample) → T (clears (r .row) (r .setting) (readingsOf x)) → T (r .row .recovers)
+pub only-recovering : (r : Rule) (x : Sample) → T (clears (r .row) (r .setting) (readingsOf x)) → T (r .row .recovers)
 unfolding clears
 only-recovering r x = and-left (r .row .recovers) _
 

@@ -56,7 +56,7 @@ InAll m p test = (s : ℕ) → s ≤ m → T (has p s) → T (test s)
 -- What a flag over a set says of its states.
 module _ (m : ℕ) (p : List Bool) where
   -- some state of the set meets a test
-  abbrev meets : (ℕ → Bool) → Bool
+  abbrev pub meets : (ℕ → Bool) → Bool
   meets test = someBelow (suc m) (λ s. has p s && test s)
 
   state-meets : (test : ℕ → Bool) (s : ℕ) → s ≤ m → T (has p s) → T (test s) → T (meets test)
@@ -91,16 +91,16 @@ module _ (m : ℕ) (p : List Bool) where
       (refuted (meets test) (λ t. let (i, l, b, u) = meets-state test t in T-not (test i) (all i l b) u))
 
 module _ (r : Rule) (ok : Sound r) (trace : ℕ → Shown) (k : ℕ) where
-  abbrev met : (ℕ → Bool) → Bool
+  abbrev pub met : (ℕ → Bool) → Bool
   met = meets (last r) (possible r trace k)
 
   -- the set meets a test exactly if the test holds under some filling
-  meets-some : (test : ℕ → Bool) → T (met test) → Sometimes r trace k test
+  pub meets-some : (test : ℕ → Bool) → T (met test) → Sometimes r trace k test
   meets-some test t =
       let (s, l, h, u) = meets-state (last r) (possible r trace k) test t in
       let (f, fills, e) = complete r ok trace k s h in (f, fills, subst (λ i. T (test i)) (sym e) u)
 
-  some-meets : (test : ℕ → Bool) (f : ℕ → Sample) → T (test (after r trace f k)) → T (met test)
+  pub some-meets : (test : ℕ → Bool) (f : ℕ → Sample) → T (test (after r trace f k)) → T (met test)
   some-meets test f = state-meets (last r) (possible r trace k) test (after r trace f k) (after-le r trace f k) (sound r trace f k)
 
   -- what holds under every filling holds in every state of the set

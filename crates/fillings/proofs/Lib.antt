@@ -15,3 +15,5 @@ pub mod UnseenStates
 pub mod Local
 pub mod Charge
 pub mod Marked
+pub mod Bounds
+pub mod BoundRuns
