@@ -1,3 +1,4 @@
 pub mod Paired
 pub mod FirstLaws
 pub mod RunTicks
+pub mod FirstTicks
