@@ -4,3 +4,4 @@ pub mod Paired
 pub mod Pairing
 pub mod FirstLaws
 pub mod RunTicks
+pub mod FirstTicks

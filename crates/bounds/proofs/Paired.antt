@@ -8,7 +8,6 @@ use lib.Dec.{ltb}
 use lib.ListN.{getD, length}
 use lib.Seq.{ext-getD}
 use borrow.Author.Tests.{lt-ltb, le-ltb, ltb-true, ltb-false}
-use Rattle.lists.specs.Lists.{tabulate}
 use Rattle.lists.proofs.Bools.{by-order, length-tabulate, getD-tabulate, tabulate-same}
 use Rattle.bounds.specs.Lanes.{paired}
 

@@ -10,7 +10,7 @@ use Rattle.rules.specs.Evaluation.{evaluations}
 use Rattle.rules.proofs.Evaluations.{evaluations-every, evaluations-even}
 use Rattle.fillings.specs.Flags.{firstFrom}
 use Rattle.bounds.specs.Firsts.{none, tickOf, topTick}
-use Rattle.bounds.proofs.FirstLaws.{Found, is-found, is-missing}
+use Rattle.bounds.proofs.FirstLaws.{is-found, is-missing}
 
 -- How many evaluations have passed once tick t has.
 abbrev passed : Row → ℕ → ℕ → ℕ
