@@ -4,18 +4,27 @@ use mathlib.Core.Bool.{Bool, false, cond, _&&_, _||_}
 use mathlib.Core.List.{List}
 use lib.IntN.{ℤ, pos}
 use lib.Signed.{ltZ}
-use lib.Dec.{ltb, eqb}
-use lib.ListN.{getD}
+use lib.Dec.{ltb, leb, eqb}
+use lib.ListN.{getD, length}
 use Rattle.lists.specs.Lists.{tabulate}
 use Rattle.rules.specs.declared.Readings.{Readings}
 use Rattle.rules.specs.declared.Row.{Row}
 use Rattle.rules.specs.Table.{rowAt}
 use Rattle.rules.specs.Quantities.{value, qualified}
 use Rattle.rules.specs.Evaluation.{step, evaluations}
+use Rattle.flags.specs.declared.Flag.the-variants.{Unknown}
 use Rattle.flags.specs.declared.RuleFlags.{RuleFlags}
 use Rattle.fillings.specs.Bounds.{flagsBetween}
 use Rattle.bounds.specs.Lanes.{paired}
 use Rattle.bounds.specs.Plan.{along}
+
+-- Thirty-two states, and as many first ticks.
+abbrev pub sized : List ℕ → List ℕ → Bool
+sized ss fs = eqb (length ss) 32 && eqb (length fs) 32
+
+-- And readings whose sum of cells is one of 31 bits, as every pack's is.
+abbrev pub readable : Readings → List ℕ → List ℕ → Bool
+readable r ss fs = leb (r .«sum_of_cells») 2147483647 && sized ss fs
 
 -- What a rule of a row reads of a sample.
 abbrev pub reading : Row → Readings → ℤ
@@ -59,6 +68,9 @@ statesMissed lanes first last ss =
     paired (λ i. leastMissed (getD lanes i 0) (rowAt i .recovers) (evaluationsOf first last i) (getD ss i 0))
     (λ i. greatestMissed (getD lanes i 0) (evaluationsOf first last i) (getD ss (16 + i) 0))
 
--- The flags of all rules.
+-- The flags of all rules; of a list that is not of thirty-two states nothing is known.
 unfoldable pub flagsOfStates : List ℕ → List ℕ → List RuleFlags
-flagsOfStates lanes ss = tabulate 16 (λ i. flagsBetween (rowAt i) (getD lanes i 0) (getD ss i 0) (getD ss (16 + i) 0))
+flagsOfStates lanes ss =
+    cond (eqb (length ss) 32)
+    (tabulate 16 (λ i. flagsBetween (rowAt i) (getD lanes i 0) (getD ss i 0) (getD ss (16 + i) 0)))
+    (tabulate 16 (λ i. record { alert = Unknown; status = Unknown }))

@@ -1,7 +1,7 @@
 // The first ticks of the states.
 ghost use mathlib.Core.Path.{_≡_};
 ghost use Prim.Native.Nat.{_+_, _<_};
-ghost use lib.ListN.{getD, set};
+ghost use lib.ListN.{getD, length, set};
 ghost use Rattle.bounds.specs.Lanes.{paired};
 ghost use Rattle.bounds.specs.Firsts.{noted, notedAt};
 use crate::reading::is_top;
@@ -16,8 +16,8 @@ pub(crate) fn note(found: u32, first: u32) -> u32
 }
 
 // Notes the tick of a lane whose state is at the top.
-fn note_lane(firsts: &mut [u32; 32], j: usize, tick: u32, top: u16, s: u16)
-    requires { ⌜ j < 32 ⌝ }
+fn note_lane(firsts: &mut [u32], j: usize, tick: u32, top: u16, s: u16)
+    requires { ⌜ j < length (now firsts) ⌝ }
     ensures { λ _. ⌜ now (firsts .exit) ≡ set (now (firsts .entry)) j (notedAt top tick s (getD (now (firsts .entry)) j 0)) ⌝ }
 {
     let first = firsts[j];
@@ -27,7 +27,8 @@ fn note_lane(firsts: &mut [u32; 32], j: usize, tick: u32, top: u16, s: u16)
 }
 
 // Notes the tick of every state that is at the top.
-pub(crate) fn note_states(lanes: &[u16; 32], tick: u32, states: &[u16; 32], firsts: &mut [u32; 32])
+pub(crate) fn note_states(lanes: &[u16; 32], tick: u32, states: &[u16], firsts: &mut [u32])
+    requires { ⌜ (length (now states) ≡ 32) × (length (now firsts) ≡ 32) ⌝ }
     ensures { λ _. ⌜ now (firsts .exit) ≡ paired (λ i. notedAt (getD (now (lanes .entry)) i 0) tick (getD (now (states .entry)) i 0) (getD (now (firsts .entry)) i 0)) (λ i. notedAt (getD (now (lanes .entry)) i 0) tick (getD (now (states .entry)) (16 + i) 0) (getD (now (firsts .entry)) (16 + i) 0)) ⌝ }
 {
     let mut i: usize = 0;

@@ -3,7 +3,7 @@ ghost use mathlib.Core.Path.{_≡_};
 ghost use mathlib.Core.Bool.{cond, _||_};
 ghost use Prim.Native.Nat.{_<_};
 ghost use lib.Dec.{ltb};
-ghost use lib.ListN.{getD, set};
+ghost use lib.ListN.{getD, length, set};
 ghost use Rattle.lists.specs.Lists.{someBelow};
 ghost use Rattle.rules.specs.Evaluation.{top, step};
 ghost use Rattle.bounds.specs.Firsts.{rises, rulesRise};
@@ -56,8 +56,8 @@ fn has_risen(top: u16, s: u16, next: u16) -> bool
 }
 
 // Moves the state of a lane, and answers whether it comes to the top.
-fn move_lane(states: &mut [u16; 32], j: usize, go: bool, top: u16, trip: u16, clear: u16) -> bool
-    requires { ⌜ j < 32 ⌝ }
+fn move_lane(states: &mut [u16], j: usize, go: bool, top: u16, trip: u16, clear: u16) -> bool
+    requires { ⌜ j < length (now states) ⌝ }
     ensures states { λ _. ⌜ now (states .exit) ≡ set (now (states .entry)) j (cond go (step top (ltb 0 trip) (ltb 0 clear) (getD (now (states .entry)) j 0)) (getD (now (states .entry)) j 0)) ⌝ }
     ensures rises { λ r. ⌜ r ≡ rises top (getD (now (states .entry)) j 0) (getD (now (states .exit)) j 0) ⌝ }
 {
@@ -72,8 +72,9 @@ pub(crate) fn move_states(
     marks: [u16; 32],
     lanes: &[u16; 32],
     even: bool,
-    states: &mut [u16; 32],
+    states: &mut [u16],
 ) -> bool
+    requires { ⌜ length (now states) ≡ 32 ⌝ }
     ensures states { λ _. ⌜ now (states .exit) ≡ statesMoved marks (now (lanes .entry)) even (now (states .entry)) ⌝ }
     ensures rises { λ r. ⌜ r ≡ someBelow 16 (rulesRise (now (lanes .entry)) (now (states .entry)) (now (states .exit))) ⌝ }
 {

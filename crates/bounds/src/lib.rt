@@ -2,9 +2,8 @@
 // (paper 01, 'Three-way outputs'). Of each rule two lanes of 16 bits are kept: the loops over all rules have no branch.
 ghost use mathlib.Core.Path.{_≡_};
 ghost use mathlib.Core.Bool.{cond};
-ghost use lib.Dec.{leb};
 ghost use Rattle.bounds.specs.Plan.{testsOf, lanesOf};
-ghost use Rattle.bounds.specs.Steps.{statesSeen, statesMissed, flagsOfStates};
+ghost use Rattle.bounds.specs.Steps.{sized, readable, statesSeen, statesMissed, flagsOfStates};
 ghost use Rattle.bounds.specs.Firsts.{firstsSeen, firstsMissed};
 
 mod firsts;
@@ -62,20 +61,27 @@ pub fn lanes_of(settings: Settings) -> [u16; 32]
     lanes
 }
 
-// Moves the states by a seen tick, where they stand, and notes the first ticks. Readings whose sum no pack has change nothing.
+// Moves the states by a seen tick, where they stand, and notes the first ticks. Lists of other lengths stay as they are, and so
+// do all where the readings have a sum that no pack has.
 pub fn see(
     tests: &[i32; 32],
     lanes: &[u16; 32],
     idle: u16,
     tick: u32,
     r: Readings,
-    states: &mut [u16; 32],
-    firsts: &mut [u32; 32],
+    states: &mut [u16],
+    firsts: &mut [u32],
 )
-    ensures states { λ _. ⌜ now (states .exit) ≡ cond (leb (r .«sum_of_cells») 2147483647) (statesSeen (now (tests .entry)) (now (lanes .entry)) idle tick r (now (states .entry))) (now (states .entry)) ⌝ }
-    ensures firsts { λ _. ⌜ now (firsts .exit) ≡ cond (leb (r .«sum_of_cells») 2147483647) (firstsSeen (now (lanes .entry)) tick (now (states .entry)) (now (states .exit)) (now (firsts .entry))) (now (firsts .entry)) ⌝ }
+    ensures states { λ _. ⌜ now (states .exit) ≡ cond (readable r (now (states .entry)) (now (firsts .entry))) (statesSeen (now (tests .entry)) (now (lanes .entry)) idle tick r (now (states .entry))) (now (states .entry)) ⌝ }
+    ensures firsts { λ _. ⌜ now (firsts .exit) ≡ cond (readable r (now (states .entry)) (now (firsts .entry))) (firstsSeen (now (lanes .entry)) tick (now (states .entry)) (now (states .exit)) (now (firsts .entry))) (now (firsts .entry)) ⌝ }
 {
     if 2147483647 < r.sum_of_cells {
+        return;
+    }
+    if states.len() != 32 {
+        return;
+    }
+    if firsts.len() != 32 {
         return;
     }
     let up = towards_thresholds(idle, r);
@@ -86,17 +92,18 @@ pub fn see(
     }
 }
 
-// Moves the states by the unseen ticks from first to last, where they stand, and notes the first ticks.
-pub fn miss(
-    lanes: &[u16; 32],
-    first: u32,
-    last: u32,
-    states: &mut [u16; 32],
-    firsts: &mut [u32; 32],
-)
-    ensures states { λ _. ⌜ now (states .exit) ≡ statesMissed (now (lanes .entry)) first last (now (states .entry)) ⌝ }
-    ensures firsts { λ _. ⌜ now (firsts .exit) ≡ firstsMissed (now (lanes .entry)) first last (now (states .entry)) (now (firsts .entry)) ⌝ }
+// Moves the states by the unseen ticks from first to last, where they stand, and notes the first ticks. Lists of other lengths
+// stay as they are.
+pub fn miss(lanes: &[u16; 32], first: u32, last: u32, states: &mut [u16], firsts: &mut [u32])
+    ensures states { λ _. ⌜ now (states .exit) ≡ cond (sized (now (states .entry)) (now (firsts .entry))) (statesMissed (now (lanes .entry)) first last (now (states .entry))) (now (states .entry)) ⌝ }
+    ensures firsts { λ _. ⌜ now (firsts .exit) ≡ cond (sized (now (states .entry)) (now (firsts .entry))) (firstsMissed (now (lanes .entry)) first last (now (states .entry)) (now (firsts .entry))) (now (firsts .entry)) ⌝ }
 {
+    if states.len() != 32 {
+        return;
+    }
+    if firsts.len() != 32 {
+        return;
+    }
     let table = rules::all_rows();
     let mut i: usize = 0;
     while i < 16 {
@@ -108,7 +115,7 @@ pub fn miss(
 }
 
 // The alert and the status of every rule.
-pub fn flags_in(lanes: &[u16; 32], states: &[u16; 32]) -> Flags
+pub fn flags_in(lanes: &[u16; 32], states: &[u16]) -> Flags
     ensures { λ r. ⌜ r .of ≡ flagsOfStates (now (lanes .entry)) (now (states .entry)) ⌝ }
 {
     let unknown = RuleFlags {
@@ -116,6 +123,9 @@ pub fn flags_in(lanes: &[u16; 32], states: &[u16; 32]) -> Flags
         status: Flag::Unknown,
     };
     let mut flags = Flags { of: [unknown; 16] };
+    if states.len() != 32 {
+        return flags;
+    }
     let mut i: usize = 0;
     while i < 16 {
         let top = lanes[i];

@@ -1,7 +1,7 @@
 // A run of unseen ticks of one rule.
 ghost use mathlib.Core.Path.{_≡_};
 ghost use Prim.Native.Nat.{suc, _+_, _-_, _<_, _≤_};
-ghost use lib.ListN.{getD, set};
+ghost use lib.ListN.{getD, length, set};
 ghost use Rattle.rules.specs.Table.{rowAt};
 ghost use Rattle.rules.specs.Evaluation.{evaluations};
 ghost use Rattle.bounds.specs.Steps.{leastMissed, greatestMissed, evaluationsOf};
@@ -75,10 +75,10 @@ pub(crate) fn miss_rule(
     top: u16,
     first: u32,
     last: u32,
-    states: &mut [u16; 32],
-    firsts: &mut [u32; 32],
+    states: &mut [u16],
+    firsts: &mut [u32],
 )
-    requires { ⌜ i < 16 ⌝ }
+    requires { ⌜ (i < 16) × (length (now states) ≡ 32) × (length (now firsts) ≡ 32) ⌝ }
     ensures states { λ _. ⌜ now (states .exit) ≡ set (set (now (states .entry)) i (leastMissed top (row .recovers) (evaluations row first (suc last)) (getD (now (states .entry)) i 0))) (16 + i) (greatestMissed top (evaluations row first (suc last)) (getD (now (states .entry)) (16 + i) 0)) ⌝ }
     ensures firsts { λ _. ⌜ now (firsts .exit) ≡ set (now (firsts .entry)) (16 + i) (noted (topTick row top first (evaluations row first (suc last)) (getD (now (states .entry)) (16 + i) 0)) (getD (now (firsts .entry)) (16 + i) 0)) ⌝ }
 {

@@ -11,77 +11,81 @@ Inv-loop lanes even states₀ marks any₀ i₀ states any i = ?
 abbrev μ-loop : tie.MeasureT-loop
 μ-loop lanes even states₀ marks any₀ i₀ states any i = ?
 
--- src/lanes.rt:82:5
+-- src/lanes.rt:83:5
 loop-holds : tie.Need-loop-holds Inv-loop μ-loop
 loop-holds c = ?
 
--- src/lanes.rt:83:29
+-- src/lanes.rt:84:29
 add-goes : tie.Need-add-goes Inv-loop μ-loop
 add-goes c = ?
 
--- src/lanes.rt:83:23
+-- src/lanes.rt:84:23
 mul-goes : tie.Need-mul-goes Inv-loop μ-loop
 mul-goes c = ?
 
--- src/lanes.rt:83:23
+-- src/lanes.rt:84:23
 element-copy-out-goes : tie.Need-element-copy-out-goes Inv-loop μ-loop
 element-copy-out-goes c = ?
 
--- src/lanes.rt:83:13
+-- src/lanes.rt:84:13
 goes-requires : tie.Need-goes-requires Inv-loop μ-loop
 goes-requires c κs = ?
 
--- src/lanes.rt:84:19
+-- src/lanes.rt:85:19
 mul-top : tie.Need-mul-top Inv-loop μ-loop
 mul-top c = ?
 
--- src/lanes.rt:84:19
+-- src/lanes.rt:85:19
 element-copy-out-top : tie.Need-element-copy-out-top Inv-loop μ-loop
 element-copy-out-top c = ?
 
--- src/lanes.rt:85:20
+-- src/lanes.rt:86:20
 mul-trip : tie.Need-mul-trip Inv-loop μ-loop
 mul-trip c = ?
 
--- src/lanes.rt:85:20
+-- src/lanes.rt:86:20
 array-read-trip : tie.Need-array-read-trip Inv-loop μ-loop
 array-read-trip c = ?
 
--- src/lanes.rt:86:27
+-- src/lanes.rt:87:27
 add-clear : tie.Need-add-clear Inv-loop μ-loop
 add-clear c = ?
 
--- src/lanes.rt:86:21
+-- src/lanes.rt:87:21
 mul-clear : tie.Need-mul-clear Inv-loop μ-loop
 mul-clear c = ?
 
--- src/lanes.rt:86:21
+-- src/lanes.rt:87:21
 array-read-clear : tie.Need-array-read-clear Inv-loop μ-loop
 array-read-clear c = ?
 
--- src/lanes.rt:87:13
+-- src/lanes.rt:88:13
 move-lane-requires : tie.Need-move-lane-requires Inv-loop μ-loop
 move-lane-requires c κs = ?
 
--- src/lanes.rt:88:42
+-- src/lanes.rt:89:42
 add-move-lane : tie.Need-add-move-lane Inv-loop μ-loop
 add-move-lane c = ?
 
--- src/lanes.rt:88:13
+-- src/lanes.rt:89:13
 move-lane-requires-2 : tie.Need-move-lane-requires-2 Inv-loop μ-loop
 move-lane-requires-2 c κs = ?
 
--- src/lanes.rt:90:9
+-- src/lanes.rt:91:9
 add-i : tie.Need-add-i Inv-loop μ-loop
 add-i c = ?
 
--- src/lanes.rt:82:5
+-- src/lanes.rt:83:5
 loop-less : tie.Need-loop-less Inv-loop μ-loop
 loop-less c = ?
 
--- src/lanes.rt:82:5
+-- src/lanes.rt:83:5
 loop-again : tie.Need-loop-again Inv-loop μ-loop
 loop-again c = ?
+
+-- src/lanes.rt:71:1
+same-length : tie.Need-same-length Inv-loop μ-loop
+same-length c = ?
 
 -- src/lanes.rt:71:1
 returns : tie.Need-returns Inv-loop μ-loop
@@ -111,4 +115,5 @@ move-states-spec =
     add-i
     loop-less
     loop-again
+    same-length
     returns)

@@ -18,8 +18,8 @@ mul-least : tie.Need-mul-least
 mul-least c = search needs
 
 -- src/unseen.rt:86:17
-element-copy-out-least : tie.Need-element-copy-out-least
-element-copy-out-least c = search needs
+slice-read-least : tie.Need-slice-read-least
+slice-read-least c = search needs
 
 -- src/unseen.rt:87:27
 add-greatest : tie.Need-add-greatest
@@ -30,8 +30,8 @@ mul-greatest : tie.Need-mul-greatest
 mul-greatest c = search needs
 
 -- src/unseen.rt:87:20
-element-copy-out-greatest : tie.Need-element-copy-out-greatest
-element-copy-out-greatest c = search needs
+slice-read-greatest : tie.Need-slice-read-greatest
+slice-read-greatest c = search needs
 
 -- src/unseen.rt:88:24
 add-known : tie.Need-add-known
@@ -42,8 +42,8 @@ mul-known : tie.Need-mul-known
 mul-known c = search needs
 
 -- src/unseen.rt:88:17
-element-copy-out-known : tie.Need-element-copy-out-known
-element-copy-out-known c = search needs
+slice-read-known : tie.Need-slice-read-known
+slice-read-known c = search needs
 
 -- src/unseen.rt:89:17
 least-missed-requires : tie.Need-least-missed-requires
@@ -54,8 +54,8 @@ mul-states : tie.Need-mul-states
 mul-states c = search needs
 
 -- src/unseen.rt:89:5
-element-write-states : tie.Need-element-write-states
-element-write-states c = search needs
+slice-write-states : tie.Need-slice-write-states
+slice-write-states c = search needs
 
 -- src/unseen.rt:90:22
 greatest-missed-requires : tie.Need-greatest-missed-requires
@@ -70,8 +70,8 @@ mul-states-2 : tie.Need-mul-states-2
 mul-states-2 c = search needs
 
 -- src/unseen.rt:90:5
-element-write-states-2 : tie.Need-element-write-states-2
-element-write-states-2 c = search needs
+slice-write-states-2 : tie.Need-slice-write-states-2
+slice-write-states-2 c = ?
 
 -- src/unseen.rt:91:27
 top-tick-requires : tie.Need-top-tick-requires
@@ -90,8 +90,16 @@ mul-firsts : tie.Need-mul-firsts
 mul-firsts c = search needs
 
 -- src/unseen.rt:91:5
-element-write-firsts : tie.Need-element-write-firsts
-element-write-firsts c = search needs
+slice-write-firsts : tie.Need-slice-write-firsts
+slice-write-firsts c = search needs
+
+-- src/unseen.rt:72:1
+same-length : tie.Need-same-length
+same-length c = search needs
+
+-- src/unseen.rt:72:1
+same-length-2 : tie.Need-same-length-2
+same-length-2 c = search needs
 
 -- src/unseen.rt:72:1
 returns : tie.Need-returns
@@ -103,23 +111,25 @@ miss-rule-spec =
     (tie.spec
     evaluations-in-requires
     mul-least
-    element-copy-out-least
+    slice-read-least
     add-greatest
     mul-greatest
-    element-copy-out-greatest
+    slice-read-greatest
     add-known
     mul-known
-    element-copy-out-known
+    slice-read-known
     least-missed-requires
     mul-states
-    element-write-states
+    slice-write-states
     greatest-missed-requires
     add-states
     mul-states-2
-    element-write-states-2
+    slice-write-states-2
     top-tick-requires
     note-requires
     add-firsts
     mul-firsts
-    element-write-firsts
+    slice-write-firsts
+    same-length
+    same-length-2
     returns)

@@ -1,0 +1,159 @@
+-- The loops over all rules: the marks of a sample, and the states moved by them.
+use Prim.Native.Nat.{ℕ, _+_, _%_, _≤_, _<_}
+use native.Mathlib.Omega.{arith}
+use mathlib.Core.Path.{_≡_, refl, ap, ap₂, sym, _∙_}
+use mathlib.Core.Bool.{Bool, true, false, cond, _&&_, _||_}
+use mathlib.Core.List.{List}
+use lib.IntN.{ℤ, pos}
+use lib.Signed.{ltZ}
+use lib.Dec.{ltb, eqb}
+use lib.ListN.{getD, length, set}
+use lib.Seq.{getD-set-same}
+use borrow.Author.Count.{below-more}
+use Rattle.lists.specs.Lists.{someBelow}
+use Rattle.lists.proofs.Bools.{getD-tabulate}
+use Rattle.lists.proofs.Laying.{some-more}
+use Rattle.rules.specs.declared.Readings.{Readings}
+use Rattle.rules.specs.Table.{rowAt}
+use Rattle.rules.specs.Quantities.{qualified}
+use Rattle.rules.specs.Evaluation.{step}
+use Rattle.bounds.specs.Lanes.{paired}
+use Rattle.bounds.specs.Steps.{reading, tripsBy, clearsBy, seenBy, statesSeen}
+use Rattle.bounds.specs.Firsts.{rises, rulesRise}
+use Rattle.bounds.specs.inner.Marks.{least32, greatest32, towards, back, mark, marksOf, movedBy, statesMoved}
+use Rattle.bounds.proofs.Paired.{paired-low, paired-high, paired-same}
+use Rattle.bounds.proofs.Pairing.{Pairing, pairing-start, pairing-next, pairing-end, high-kept, long-low}
+
+-- No test is below the least number, and none above the greatest.
+pub record Tested (tests : List ℤ) (i : ℕ) : Type 0 where
+  pub least : (j : ℕ) → j < i → ltZ (getD tests j (pos 0)) least32 ≡ false
+  pub greatest : (j : ℕ) → j < i → ltZ greatest32 (getD tests (16 + j) (pos 0)) ≡ false
+
+abbrev pub upMark : List ℤ → List ℤ → ℕ → ℕ
+upMark tests up j = mark (ltZ (getD tests j (pos 0)) (getD up j (pos 0)))
+
+abbrev pub downMark : List ℤ → List ℤ → ℕ → ℕ
+downMark tests down j = mark (ltZ (getD down j (pos 0)) (getD tests (16 + j) (pos 0)))
+
+-- The marks of the rules below i.
+pub record Marking (up down tests : List ℤ) (ms₀ ms : List ℕ) (i : ℕ) : Type 0 where
+  pub pairing : Pairing 0 (upMark tests up) (downMark tests down) ms₀ ms i
+  pub tested : Tested tests i
+
+module _ (up down tests : List ℤ) (ms₀ : List ℕ) where
+  pub marking-start : length ms₀ ≡ 32 → Marking up down tests ms₀ ms₀ 0
+  marking-start l =
+      record {
+        pairing = pairing-start 0 _ _ ms₀ l;
+        tested = record { least = λ j h. absurd (omega arith); greatest = λ j h. absurd (omega arith) };
+      }
+
+  pub marking-next : {ms : List ℕ} {i : ℕ} (a b : ℕ) → Marking up down tests ms₀ ms i → i < 16
+      → a ≡ mark (ltZ (getD tests i (pos 0)) (getD up i (pos 0))) → ltZ (getD tests i (pos 0)) least32 ≡ false
+      → b ≡ mark (ltZ (getD down i (pos 0)) (getD tests (16 + i) (pos 0))) → ltZ greatest32 (getD tests (16 + i) (pos 0)) ≡ false
+      → Marking up down tests ms₀ (set (set ms i a) (16 + i) b) (i + 1)
+  marking-next {i = i} a b m h e l e′ g =
+      record {
+        pairing = pairing-next 0 _ _ ms₀ (m .pairing) h a b e e′;
+        tested = record { least = below-more _ i (m .tested .least) l; greatest = below-more _ i (m .tested .greatest) g };
+      }
+
+  pub marking-end : {ms : List ℕ} {i : ℕ} → Marking up down tests ms₀ ms i → 16 ≤ i → ms ≡ marksOf up down tests
+  unfolding marksOf
+  marking-end m h = pairing-end 0 _ _ ms₀ (m .pairing) h
+
+-- The states of the rules below i are moved, and whether one of them comes to its top.
+pub record Moving (marks lanes : List ℕ) (even : Bool) (xs₀ xs : List ℕ) (any : Bool) (i : ℕ) : Type 0 where
+  pub pairing : Pairing 0 (λ j. movedBy marks lanes even j (getD xs₀ j 0)) (λ j. movedBy marks lanes even j (getD xs₀ (16 + j) 0)) xs₀ xs i
+  pub rising : any ≡ someBelow i (rulesRise lanes xs₀ (statesMoved marks lanes even xs₀))
+
+module _ (marks lanes : List ℕ) (even : Bool) (xs₀ : List ℕ) where
+  abbrev low : ℕ → ℕ
+  low j = movedBy marks lanes even j (getD xs₀ j 0)
+
+  abbrev high : ℕ → ℕ
+  high j = movedBy marks lanes even j (getD xs₀ (16 + j) 0)
+
+  pub moving-start : length xs₀ ≡ 32 → Moving marks lanes even xs₀ xs₀ false 0
+  moving-start l = record { pairing = pairing-start 0 low high xs₀ l; rising = refl }
+
+  module _ {xs : List ℕ} {any : Bool} {i : ℕ} (m : Moving marks lanes even xs₀ xs any i) (h : i < 16) where
+    -- a rule's two states, one after the other
+    pub moving-next : (ys zs : List ℕ) (go r s : Bool) → go ≡ (ltb 0 (getD lanes (16 + i) 0) || even)
+        → ys ≡ set xs i (cond go (step (getD lanes i 0) (ltb 0 (getD marks i 0)) (ltb 0 (getD marks (16 + i) 0)) (getD xs i 0)) (getD xs i 0))
+        → r ≡ rises (getD lanes i 0) (getD xs i 0) (getD ys i 0)
+        → zs ≡ set ys (16 + i) (cond go (step (getD lanes i 0) (ltb 0 (getD marks i 0)) (ltb 0 (getD marks (16 + i) 0)) (getD ys (16 + i) 0)) (getD ys (16 + i) 0))
+        → s ≡ rises (getD lanes i 0) (getD ys (16 + i) 0) (getD zs (16 + i) 0)
+        → Moving marks lanes even xs₀ zs (any || (r || s)) (i + 1)
+    unfolding statesMoved
+    moving-next ys zs go r s eg ey er ez es =
+        let f : ℕ → ℕ = λ x. cond go (step (getD lanes i 0) (ltb 0 (getD marks i 0)) (ltb 0 (getD marks (16 + i) 0)) x) x in
+        let moved : (x : ℕ) → f x ≡ movedBy marks lanes even i x =
+        λ x. ap (λ (b : Bool). cond b (step (getD lanes i 0) (ltb 0 (getD marks i 0)) (ltb 0 (getD marks (16 + i) 0)) x) x) eg in
+        let x : getD xs i 0 ≡ getD xs₀ i 0 = m .pairing .restLow i (omega arith) h in
+        let a : ℕ = f (getD xs i 0) in
+        let ea : a ≡ low i = moved (getD xs i 0) ∙ ap (movedBy marks lanes even i) x in
+        let y : getD ys (16 + i) 0 ≡ getD xs₀ (16 + i) 0 = ap (λ (l : List ℕ). getD l (16 + i) 0) ey ∙ high-kept 0 low high xs₀ (m .pairing) h a in
+        let b : ℕ = f (getD ys (16 + i) 0) in
+        let eb : b ≡ high i = moved (getD ys (16 + i) 0) ∙ ap (movedBy marks lanes even i) y in
+        let z : zs ≡ set (set xs i a) (16 + i) b = ez ∙ ap (λ (l : List ℕ). set l (16 + i) b) ey in
+        let ly : length (set xs i a) ≡ 32 = long-low 0 low high xs₀ (m .pairing) h a in
+        let y′ : getD ys i 0 ≡ getD (paired low high) i 0 =
+        ap (λ (l : List ℕ). getD l i 0) ey ∙ getD-set-same xs i a 0 (omega (arith, m .pairing .long)) ∙ ea ∙ sym (paired-low low high 0 i h) in
+        let z′ : getD zs (16 + i) 0 ≡ getD (paired low high) (16 + i) 0 =
+        ap (λ (l : List ℕ). getD l (16 + i) 0) z ∙ getD-set-same (set xs i a) (16 + i) b 0 (omega (arith, ly)) ∙ eb ∙ sym (paired-high low high 0 i h) in
+        rw z (record {
+          pairing = pairing-next 0 low high xs₀ (m .pairing) h a b ea eb;
+          rising = some-more i (rulesRise lanes xs₀ (paired low high)) (m .rising)
+              (ap₂ _||_ (er ∙ ap₂ (rises (getD lanes i 0)) x y′) (es ∙ ap₂ (rises (getD lanes i 0)) y z′));
+        })
+
+  pub moving-end : {xs : List ℕ} {any : Bool} {i : ℕ} → Moving marks lanes even xs₀ xs any i → 16 ≤ i
+      → (xs ≡ statesMoved marks lanes even xs₀) × (any ≡ someBelow 16 (rulesRise lanes xs₀ xs))
+  unfolding statesMoved
+  moving-end {i = i} m h =
+      let e = pairing-end 0 low high xs₀ (m .pairing) h in
+      let k : i ≡ 16 = let w = m .pairing .within in omega arith in
+      (e, m .rising ∙ ap₂ (λ (n : ℕ) (l : List ℕ). someBelow n (rulesRise lanes xs₀ l)) k (sym e))
+
+-- A mark of a number that counts only if a test holds.
+counted : (b : Bool) (limit v : ℤ) → ltZ limit least32 ≡ false → ltZ limit (cond b v least32) ≡ (b && ltZ limit v)
+counted true limit v e = refl
+counted false limit v e = e
+
+counted-back : (b : Bool) (v limit : ℤ) → ltZ greatest32 limit ≡ false → ltZ (cond b v greatest32) limit ≡ (b && ltZ v limit)
+counted-back true v limit e = refl
+counted-back false v limit e = e
+
+marked : (b : Bool) → ltb 0 (mark b) ≡ b
+marked true = refl
+marked false = refl
+
+-- By the marks of a sample the states are those after a seen tick.
+pub states-seen : (tests : List ℤ) (lanes : List ℕ) (idle tick : ℕ) (r : Readings) (even : Bool) (xs marks : List ℕ) (up down : List ℤ) → Tested tests 16
+    → up ≡ towards idle r → down ≡ back r → marks ≡ marksOf up down tests → even ≡ eqb (tick % 2) 0
+    → statesMoved marks lanes even xs ≡ statesSeen tests lanes idle tick r xs
+unfolding statesMoved statesSeen marksOf towards back
+states-seen tests lanes idle tick r even xs marks up down t eu ed em ee =
+    paired-same _ _ _ _ (λ i h. same i h (getD xs i 0)) (λ i h. same i h (getD xs (16 + i) 0))
+  where
+    trips : (i : ℕ) → i < 16 → ltb 0 (getD marks i 0) ≡ tripsBy tests idle r i
+    trips i h =
+        ap (λ (l : List ℕ). ltb 0 (getD l i 0)) em
+        ∙ ap (ltb 0) (paired-low (upMark tests up) (downMark tests down) 0 i h)
+        ∙ marked (ltZ (getD tests i (pos 0)) (getD up i (pos 0)))
+        ∙ ap (λ (l : List ℤ). ltZ (getD tests i (pos 0)) (getD l i (pos 0))) eu
+        ∙ ap (ltZ (getD tests i (pos 0))) (getD-tabulate 16 (λ j. cond (qualified idle (rowAt j .quantity) r) (reading (rowAt j) r) least32) (pos 0) i h)
+        ∙ counted (qualified idle (rowAt i .quantity) r) (getD tests i (pos 0)) (reading (rowAt i) r) (t .least i h)
+    clears : (i : ℕ) → i < 16 → ltb 0 (getD marks (16 + i) 0) ≡ clearsBy tests r i
+    clears i h =
+        ap (λ (l : List ℕ). ltb 0 (getD l (16 + i) 0)) em
+        ∙ ap (ltb 0) (paired-high (upMark tests up) (downMark tests down) 0 i h)
+        ∙ marked (ltZ (getD down i (pos 0)) (getD tests (16 + i) (pos 0)))
+        ∙ ap (λ (l : List ℤ). ltZ (getD l i (pos 0)) (getD tests (16 + i) (pos 0))) ed
+        ∙ ap (λ (z : ℤ). ltZ z (getD tests (16 + i) (pos 0))) (getD-tabulate 16 (λ j. cond (rowAt j .recovers) (reading (rowAt j) r) greatest32) (pos 0) i h)
+        ∙ counted-back (rowAt i .recovers) (reading (rowAt i) r) (getD tests (16 + i) (pos 0)) (t .greatest i h)
+    same : (i : ℕ) → i < 16 → (s : ℕ) → movedBy marks lanes even i s ≡ seenBy tests lanes idle tick r i s
+    same i h s =
+        ap₂ (λ (b c : Bool). cond (ltb 0 (getD lanes (16 + i) 0) || even) (step (getD lanes i 0) b c s) s) (trips i h) (clears i h)
+        ∙ ap (λ (b : Bool). cond (ltb 0 (getD lanes (16 + i) 0) || b) (step (getD lanes i 0) (tripsBy tests idle r i) (clearsBy tests r i) s) s) ee
