@@ -3,6 +3,7 @@ pub mod Values
 pub mod Paired
 pub mod Pairing
 pub mod Moving
+pub mod MissingRuns
 pub mod FirstLaws
 pub mod RunTicks
 pub mod FirstTicks

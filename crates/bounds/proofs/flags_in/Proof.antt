@@ -1,3 +1,11 @@
+use Prim.Native.Nat.{_-_}
+use borrow.Author.Needs.{needs}
+use native.Mathlib.Omega.{arith}
+use Rattle.lists.proofs.Laying.{Laying, laying-start, laying-next, laying-end}
+use Rattle.fillings.specs.Bounds.{flagsBetween}
+use Rattle.rules.specs.Table.{rowAt}
+use lib.ListN.{getD}
+use Prim.Native.Nat.{_+_, _-_}
 use Rattle.bounds.proofs.flags_in.Statement.{statement}
 use Rattle.bounds.proofs.flags_in.Tie as tie
 use Rattle.bounds.proofs.flags_in.Reads as reads
@@ -5,72 +13,56 @@ use Rattle.bounds.proofs.flags_in.Lts as lts
 use Rattle.bounds.proofs.reading.rule_flags.Reads as rule-flags-reads
 
 abbrev Inv-loop : tie.InvT-loop
-Inv-loop lanes states flags₀ i₀ flags i = ?
+Inv-loop lanes states flags₀ i₀ flags i = Laying unknown 16 (λ j. flagsBetween (rowAt j) (getD lanes j 0) (getD states j 0) (getD states (16 + j) 0)) (flags .of) i
 
 abbrev μ-loop : tie.MeasureT-loop
-μ-loop lanes states flags₀ i₀ flags i = ?
+μ-loop lanes states flags₀ i₀ flags i = 16 - i
 
--- src/lib.rt:127:9
 returns : tie.Need-returns Inv-loop μ-loop
 returns c = ?
 
--- src/lib.rt:130:5
 loop-holds : tie.Need-loop-holds Inv-loop μ-loop
 loop-holds c = ?
 
--- src/lib.rt:131:19
 mul-top : tie.Need-mul-top Inv-loop μ-loop
-mul-top c = ?
+mul-top c = omega arith
 
--- src/lib.rt:131:19
 element-copy-out-top : tie.Need-element-copy-out-top Inv-loop μ-loop
-element-copy-out-top c = ?
+element-copy-out-top c = omega arith
 
--- src/lib.rt:132:21
 mul-least : tie.Need-mul-least Inv-loop μ-loop
-mul-least c = ?
+mul-least c = omega arith
 
--- src/lib.rt:132:21
 shared-slice-read-least : tie.Need-shared-slice-read-least Inv-loop μ-loop
 shared-slice-read-least c = ?
 
--- src/lib.rt:133:31
 add-greatest : tie.Need-add-greatest Inv-loop μ-loop
-add-greatest c = ?
+add-greatest c = omega arith
 
--- src/lib.rt:133:24
 mul-greatest : tie.Need-mul-greatest Inv-loop μ-loop
-mul-greatest c = ?
+mul-greatest c = omega arith
 
--- src/lib.rt:133:24
 shared-slice-read-greatest : tie.Need-shared-slice-read-greatest Inv-loop μ-loop
 shared-slice-read-greatest c = ?
 
--- src/lib.rt:134:23
 rule-flags-requires : tie.Need-rule-flags-requires Inv-loop μ-loop
-rule-flags-requires c κs = ?
+rule-flags-requires c κs = search needs
 
--- src/lib.rt:134:9
 mul-t15 : tie.Need-mul-t15 Inv-loop μ-loop
-mul-t15 c = ?
+mul-t15 c = omega arith
 
--- src/lib.rt:134:9
 element-set-from-flags : tie.Need-element-set-from-flags Inv-loop μ-loop
-element-set-from-flags c = ?
+element-set-from-flags c = omega arith
 
--- src/lib.rt:135:9
 add-i : tie.Need-add-i Inv-loop μ-loop
-add-i c = ?
+add-i c = omega arith
 
--- src/lib.rt:130:5
 loop-less : tie.Need-loop-less Inv-loop μ-loop
-loop-less c = ?
+loop-less c = omega arith
 
--- src/lib.rt:130:5
 loop-again : tie.Need-loop-again Inv-loop μ-loop
 loop-again c = ?
 
--- src/lib.rt:118:1
 returns-2 : tie.Need-returns-2 Inv-loop μ-loop
 returns-2 c = ?
 

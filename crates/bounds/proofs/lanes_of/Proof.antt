@@ -1,3 +1,12 @@
+use Prim.Native.Nat.{_-_}
+use borrow.Author.Needs.{needs}
+use native.Mathlib.Omega.{arith}
+use Rattle.bounds.specs.Plan.{lanesOf}
+use Rattle.limits.specs.Limits.{settingOf}
+use Rattle.rules.specs.Evaluation.{top}
+use Rattle.rules.specs.Table.{rowAt}
+use mathlib.Core.Bool.{cond}
+use Rattle.bounds.proofs.Pairing.{Pairing, pairing-start, pairing-next, pairing-end}
 use Rattle.bounds.proofs.lanes_of.Statement.{statement}
 use Rattle.bounds.proofs.lanes_of.Tie as tie
 use Rattle.bounds.proofs.lanes_of.Reads as reads
@@ -7,76 +16,59 @@ use Rattle.bounds.proofs.lanes.top_lane.Reads as top-lane-reads
 use Rattle.rules.proofs.all_rows.Reads as all-rows-reads
 
 abbrev Inv-loop : tie.InvT-loop
-Inv-loop settings table lanes₀ i₀ lanes i = ?
+Inv-loop settings table lanes₀ i₀ lanes i = Pairing 0 (λ j. top (settingOf (settings .of) j .time)) (λ j. cond (rowAt j .even) 0 1) lanes₀ lanes i
 
 abbrev μ-loop : tie.MeasureT-loop
-μ-loop settings table lanes₀ i₀ lanes i = ?
+μ-loop settings table lanes₀ i₀ lanes i = 16 - i
 
--- src/lib.rt:52:17
 all-rows-requires : tie.Need-all-rows-requires Inv-loop μ-loop
-all-rows-requires c κs = ?
+all-rows-requires c κs = search needs
 
--- src/lib.rt:55:5
 loop-holds : tie.Need-loop-holds Inv-loop μ-loop
 loop-holds c = ?
 
--- src/lib.rt:56:23
 mul-setting : tie.Need-mul-setting Inv-loop μ-loop
-mul-setting c = ?
+mul-setting c = omega arith
 
--- src/lib.rt:56:23
 element-copy-out-setting : tie.Need-element-copy-out-setting Inv-loop μ-loop
-element-copy-out-setting c = ?
+element-copy-out-setting c = omega arith
 
--- src/lib.rt:57:19
 mul-row : tie.Need-mul-row Inv-loop μ-loop
-mul-row c = ?
+mul-row c = omega arith
 
--- src/lib.rt:57:19
 element-copy-out-row : tie.Need-element-copy-out-row Inv-loop μ-loop
-element-copy-out-row c = ?
+element-copy-out-row c = omega arith
 
--- src/lib.rt:58:20
 top-lane-requires : tie.Need-top-lane-requires Inv-loop μ-loop
-top-lane-requires c κs = ?
+top-lane-requires c κs = search needs
 
--- src/lib.rt:58:9
 mul-lanes : tie.Need-mul-lanes Inv-loop μ-loop
-mul-lanes c = ?
+mul-lanes c = omega arith
 
--- src/lib.rt:58:9
 array-write-lanes : tie.Need-array-write-lanes Inv-loop μ-loop
-array-write-lanes c = ?
+array-write-lanes c = omega arith
 
--- src/lib.rt:59:25
 every-lane-requires : tie.Need-every-lane-requires Inv-loop μ-loop
-every-lane-requires c κs = ?
+every-lane-requires c κs = search needs
 
--- src/lib.rt:59:15
 add-lanes : tie.Need-add-lanes Inv-loop μ-loop
-add-lanes c = ?
+add-lanes c = omega arith
 
--- src/lib.rt:59:9
 mul-lanes-2 : tie.Need-mul-lanes-2 Inv-loop μ-loop
-mul-lanes-2 c = ?
+mul-lanes-2 c = omega arith
 
--- src/lib.rt:59:9
 array-write-lanes-2 : tie.Need-array-write-lanes-2 Inv-loop μ-loop
-array-write-lanes-2 c = ?
+array-write-lanes-2 c = omega arith
 
--- src/lib.rt:60:9
 add-i : tie.Need-add-i Inv-loop μ-loop
-add-i c = ?
+add-i c = omega arith
 
--- src/lib.rt:55:5
 loop-less : tie.Need-loop-less Inv-loop μ-loop
-loop-less c = ?
+loop-less c = omega arith
 
--- src/lib.rt:55:5
 loop-again : tie.Need-loop-again Inv-loop μ-loop
 loop-again c = ?
 
--- src/lib.rt:49:1
 returns : tie.Need-returns Inv-loop μ-loop
 returns c = ?
 

@@ -1,3 +1,11 @@
+use Prim.Native.Nat.{_-_}
+use borrow.Author.Needs.{needs}
+use native.Mathlib.Omega.{arith}
+use Rattle.bounds.specs.Plan.{along, testsOf}
+use Rattle.limits.specs.Limits.{settingOf}
+use Rattle.rules.specs.Table.{rowAt}
+use lib.IntN.{pos}
+use Rattle.bounds.proofs.Pairing.{Pairing, pairing-start, pairing-next, pairing-end}
 use Rattle.bounds.proofs.tests_of.Statement.{statement}
 use Rattle.bounds.proofs.tests_of.Tie as tie
 use Rattle.bounds.proofs.tests_of.Reads as reads
@@ -6,76 +14,59 @@ use Rattle.bounds.proofs.reading.number_along.Reads as number-along-rea
 use Rattle.rules.proofs.all_rows.Reads as all-rows-reads
 
 abbrev Inv-loop : tie.InvT-loop
-Inv-loop settings table tests₀ i₀ tests i = ?
+Inv-loop settings table tests₀ i₀ tests i = Pairing (pos 0) (λ j. along (rowAt j .side) (settingOf (settings .of) j .threshold)) (λ j. along (rowAt j .side) (settingOf (settings .of) j .recovery)) tests₀ tests i
 
 abbrev μ-loop : tie.MeasureT-loop
-μ-loop settings table tests₀ i₀ tests i = ?
+μ-loop settings table tests₀ i₀ tests i = 16 - i
 
--- src/lib.rt:34:17
 all-rows-requires : tie.Need-all-rows-requires Inv-loop μ-loop
-all-rows-requires c κs = ?
+all-rows-requires c κs = search needs
 
--- src/lib.rt:37:5
 loop-holds : tie.Need-loop-holds Inv-loop μ-loop
 loop-holds c = ?
 
--- src/lib.rt:38:23
 mul-setting : tie.Need-mul-setting Inv-loop μ-loop
-mul-setting c = ?
+mul-setting c = omega arith
 
--- src/lib.rt:38:23
 element-copy-out-setting : tie.Need-element-copy-out-setting Inv-loop μ-loop
-element-copy-out-setting c = ?
+element-copy-out-setting c = omega arith
 
--- src/lib.rt:39:19
 mul-row : tie.Need-mul-row Inv-loop μ-loop
-mul-row c = ?
+mul-row c = omega arith
 
--- src/lib.rt:39:19
 element-copy-out-row : tie.Need-element-copy-out-row Inv-loop μ-loop
-element-copy-out-row c = ?
+element-copy-out-row c = omega arith
 
--- src/lib.rt:41:20
 number-along-requires : tie.Need-number-along-requires Inv-loop μ-loop
-number-along-requires c κs = ?
+number-along-requires c κs = search needs
 
--- src/lib.rt:41:9
 mul-tests : tie.Need-mul-tests Inv-loop μ-loop
-mul-tests c = ?
+mul-tests c = omega arith
 
--- src/lib.rt:41:9
 array-set-from-tests : tie.Need-array-set-from-tests Inv-loop μ-loop
-array-set-from-tests c = ?
+array-set-from-tests c = omega arith
 
--- src/lib.rt:42:25
 number-along-requires-2 : tie.Need-number-along-requires-2 Inv-loop μ-loop
-number-along-requires-2 c κs = ?
+number-along-requires-2 c κs = search needs
 
--- src/lib.rt:42:15
 add-tests : tie.Need-add-tests Inv-loop μ-loop
-add-tests c = ?
+add-tests c = omega arith
 
--- src/lib.rt:42:9
 mul-tests-2 : tie.Need-mul-tests-2 Inv-loop μ-loop
-mul-tests-2 c = ?
+mul-tests-2 c = omega arith
 
--- src/lib.rt:42:9
 array-set-from-tests-2 : tie.Need-array-set-from-tests-2 Inv-loop μ-loop
-array-set-from-tests-2 c = ?
+array-set-from-tests-2 c = omega arith
 
--- src/lib.rt:43:9
 add-i : tie.Need-add-i Inv-loop μ-loop
-add-i c = ?
+add-i c = omega arith
 
--- src/lib.rt:37:5
 loop-less : tie.Need-loop-less Inv-loop μ-loop
-loop-less c = ?
+loop-less c = omega arith
 
--- src/lib.rt:37:5
 loop-again : tie.Need-loop-again Inv-loop μ-loop
 loop-again c = ?
 
--- src/lib.rt:31:1
 returns : tie.Need-returns Inv-loop μ-loop
 returns c = ?
 

@@ -1,3 +1,10 @@
+use Prim.Native.Nat.{_-_}
+use borrow.Author.Needs.{needs}
+use native.Mathlib.Omega.{arith}
+use Rattle.bounds.specs.Firsts.{notedAt}
+use Rattle.bounds.proofs.Pairing.{Pairing, pairing-start, pairing-next, pairing-end}
+use lib.ListN.{getD}
+use Prim.Native.Nat.{_+_, _-_}
 use Rattle.bounds.proofs.firsts.note_states.Statement.{statement}
 use Rattle.bounds.proofs.firsts.note_states.Tie as tie
 use Rattle.bounds.proofs.firsts.note_states.Reads as reads
@@ -5,72 +12,56 @@ use Rattle.bounds.proofs.firsts.note_states.Lts as lts
 use Rattle.bounds.proofs.firsts.note_lane.Reads as note-lane-reads
 
 abbrev Inv-loop : tie.InvT-loop
-Inv-loop lanes tick states firsts₀ i₀ firsts i = ?
+Inv-loop lanes tick states firsts₀ i₀ firsts i = Pairing 0 (λ j. notedAt (getD lanes j 0) tick (getD states j 0) (getD firsts₀ j 0)) (λ j. notedAt (getD lanes j 0) tick (getD states (16 + j) 0) (getD firsts₀ (16 + j) 0)) firsts₀ firsts i
 
 abbrev μ-loop : tie.MeasureT-loop
-μ-loop lanes tick states firsts₀ i₀ firsts i = ?
+μ-loop lanes tick states firsts₀ i₀ firsts i = 16 - i
 
--- src/firsts.rt:35:5
 loop-holds : tie.Need-loop-holds Inv-loop μ-loop
 loop-holds c = ?
 
--- src/firsts.rt:36:19
 mul-top : tie.Need-mul-top Inv-loop μ-loop
-mul-top c = ?
+mul-top c = omega arith
 
--- src/firsts.rt:36:19
 element-copy-out-top : tie.Need-element-copy-out-top Inv-loop μ-loop
-element-copy-out-top c = ?
+element-copy-out-top c = omega arith
 
--- src/firsts.rt:37:41
 mul-note-lane : tie.Need-mul-note-lane Inv-loop μ-loop
-mul-note-lane c = ?
+mul-note-lane c = omega arith
 
--- src/firsts.rt:37:41
 shared-slice-read-note-lane : tie.Need-shared-slice-read-note-lane Inv-loop μ-loop
 shared-slice-read-note-lane c = ?
 
--- src/firsts.rt:37:9
 note-lane-requires : tie.Need-note-lane-requires Inv-loop μ-loop
-note-lane-requires c κs = ?
+note-lane-requires c κs = search needs
 
--- src/firsts.rt:38:27
 add-note-lane : tie.Need-add-note-lane Inv-loop μ-loop
-add-note-lane c = ?
+add-note-lane c = omega arith
 
--- src/firsts.rt:38:53
 add-note-lane-2 : tie.Need-add-note-lane-2 Inv-loop μ-loop
-add-note-lane-2 c = ?
+add-note-lane-2 c = omega arith
 
--- src/firsts.rt:38:46
 mul-note-lane-2 : tie.Need-mul-note-lane-2 Inv-loop μ-loop
-mul-note-lane-2 c = ?
+mul-note-lane-2 c = omega arith
 
--- src/firsts.rt:38:46
 shared-slice-read-note-lane-2 : tie.Need-shared-slice-read-note-lane-2 Inv-loop μ-loop
 shared-slice-read-note-lane-2 c = ?
 
--- src/firsts.rt:38:9
 note-lane-requires-2 : tie.Need-note-lane-requires-2 Inv-loop μ-loop
-note-lane-requires-2 c κs = ?
+note-lane-requires-2 c κs = search needs
 
--- src/firsts.rt:39:9
 add-i : tie.Need-add-i Inv-loop μ-loop
-add-i c = ?
+add-i c = omega arith
 
--- src/firsts.rt:35:5
 loop-less : tie.Need-loop-less Inv-loop μ-loop
-loop-less c = ?
+loop-less c = omega arith
 
--- src/firsts.rt:35:5
 loop-again : tie.Need-loop-again Inv-loop μ-loop
 loop-again c = ?
 
--- src/firsts.rt:30:1
 same-length : tie.Need-same-length Inv-loop μ-loop
 same-length c = ?
 
--- src/firsts.rt:30:1
 returns : tie.Need-returns Inv-loop μ-loop
 returns c = ?
 

@@ -1,3 +1,7 @@
+use Prim.Native.Nat.{_-_}
+use borrow.Author.Needs.{needs}
+use native.Mathlib.Omega.{arith}
+use Rattle.bounds.proofs.Moving.{Moving, moving-start, moving-next, moving-end}
 use Rattle.bounds.proofs.lanes.move_states.Statement.{statement}
 use Rattle.bounds.proofs.lanes.move_states.Tie as tie
 use Rattle.bounds.proofs.lanes.move_states.Reads as reads
@@ -6,88 +10,68 @@ use Rattle.bounds.proofs.lanes.goes.Reads as goes-reads
 use Rattle.bounds.proofs.lanes.move_lane.Reads as move-lane-reads
 
 abbrev Inv-loop : tie.InvT-loop
-Inv-loop lanes even states₀ marks any₀ i₀ states any i = ?
+Inv-loop lanes even states₀ marks any₀ i₀ states any i = Moving marks lanes even states₀ states any i
 
 abbrev μ-loop : tie.MeasureT-loop
-μ-loop lanes even states₀ marks any₀ i₀ states any i = ?
+μ-loop lanes even states₀ marks any₀ i₀ states any i = 16 - i
 
--- src/lanes.rt:83:5
 loop-holds : tie.Need-loop-holds Inv-loop μ-loop
 loop-holds c = ?
 
--- src/lanes.rt:84:29
 add-goes : tie.Need-add-goes Inv-loop μ-loop
-add-goes c = ?
+add-goes c = omega arith
 
--- src/lanes.rt:84:23
 mul-goes : tie.Need-mul-goes Inv-loop μ-loop
-mul-goes c = ?
+mul-goes c = omega arith
 
--- src/lanes.rt:84:23
 element-copy-out-goes : tie.Need-element-copy-out-goes Inv-loop μ-loop
-element-copy-out-goes c = ?
+element-copy-out-goes c = omega arith
 
--- src/lanes.rt:84:13
 goes-requires : tie.Need-goes-requires Inv-loop μ-loop
-goes-requires c κs = ?
+goes-requires c κs = search needs
 
--- src/lanes.rt:85:19
 mul-top : tie.Need-mul-top Inv-loop μ-loop
-mul-top c = ?
+mul-top c = omega arith
 
--- src/lanes.rt:85:19
 element-copy-out-top : tie.Need-element-copy-out-top Inv-loop μ-loop
-element-copy-out-top c = ?
+element-copy-out-top c = omega arith
 
--- src/lanes.rt:86:20
 mul-trip : tie.Need-mul-trip Inv-loop μ-loop
-mul-trip c = ?
+mul-trip c = omega arith
 
--- src/lanes.rt:86:20
 array-read-trip : tie.Need-array-read-trip Inv-loop μ-loop
-array-read-trip c = ?
+array-read-trip c = omega arith
 
--- src/lanes.rt:87:27
 add-clear : tie.Need-add-clear Inv-loop μ-loop
-add-clear c = ?
+add-clear c = omega arith
 
--- src/lanes.rt:87:21
 mul-clear : tie.Need-mul-clear Inv-loop μ-loop
-mul-clear c = ?
+mul-clear c = omega arith
 
--- src/lanes.rt:87:21
 array-read-clear : tie.Need-array-read-clear Inv-loop μ-loop
-array-read-clear c = ?
+array-read-clear c = omega arith
 
--- src/lanes.rt:88:13
 move-lane-requires : tie.Need-move-lane-requires Inv-loop μ-loop
-move-lane-requires c κs = ?
+move-lane-requires c κs = search needs
 
--- src/lanes.rt:89:42
 add-move-lane : tie.Need-add-move-lane Inv-loop μ-loop
-add-move-lane c = ?
+add-move-lane c = omega arith
 
--- src/lanes.rt:89:13
 move-lane-requires-2 : tie.Need-move-lane-requires-2 Inv-loop μ-loop
-move-lane-requires-2 c κs = ?
+move-lane-requires-2 c κs = search needs
 
--- src/lanes.rt:91:9
 add-i : tie.Need-add-i Inv-loop μ-loop
-add-i c = ?
+add-i c = omega arith
 
--- src/lanes.rt:83:5
 loop-less : tie.Need-loop-less Inv-loop μ-loop
-loop-less c = ?
+loop-less c = omega arith
 
--- src/lanes.rt:83:5
 loop-again : tie.Need-loop-again Inv-loop μ-loop
 loop-again c = ?
 
--- src/lanes.rt:71:1
 same-length : tie.Need-same-length Inv-loop μ-loop
 same-length c = ?
 
--- src/lanes.rt:71:1
 returns : tie.Need-returns Inv-loop μ-loop
 returns c = ?
 

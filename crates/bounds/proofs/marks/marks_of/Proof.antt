@@ -1,3 +1,7 @@
+use Prim.Native.Nat.{_-_}
+use borrow.Author.Needs.{needs}
+use native.Mathlib.Omega.{arith}
+use Rattle.bounds.proofs.Moving.{Marking, marking-start, marking-next, marking-end}
 use Rattle.bounds.proofs.marks.marks_of.Statement.{statement}
 use Rattle.bounds.proofs.marks.marks_of.Tie as tie
 use Rattle.bounds.proofs.marks.marks_of.Reads as reads
@@ -5,92 +9,71 @@ use Rattle.bounds.proofs.marks.marks_of.Lts as lts
 use Rattle.bounds.proofs.marks.is_above.Reads as is-above-reads
 
 abbrev Inv-loop : tie.InvT-loop
-Inv-loop tests up down marks₀ i₀ marks i = ?
+Inv-loop tests up down marks₀ i₀ marks i = Marking up down tests marks₀ marks i
 
 abbrev μ-loop : tie.MeasureT-loop
-μ-loop tests up down marks₀ i₀ marks i = ?
+μ-loop tests up down marks₀ i₀ marks i = 16 - i
 
--- src/marks.rt:33:5
 loop-holds : tie.Need-loop-holds Inv-loop μ-loop
 loop-holds c = ?
 
--- src/marks.rt:34:29
 mul-is-above : tie.Need-mul-is-above Inv-loop μ-loop
-mul-is-above c = ?
+mul-is-above c = omega arith
 
--- src/marks.rt:34:29
 element-copy-out-is-above : tie.Need-element-copy-out-is-above Inv-loop μ-loop
-element-copy-out-is-above c = ?
+element-copy-out-is-above c = omega arith
 
--- src/marks.rt:34:39
 mul-is-above-2 : tie.Need-mul-is-above-2 Inv-loop μ-loop
-mul-is-above-2 c = ?
+mul-is-above-2 c = omega arith
 
--- src/marks.rt:34:39
 array-copy-out-is-above : tie.Need-array-copy-out-is-above Inv-loop μ-loop
-array-copy-out-is-above c = ?
+array-copy-out-is-above c = omega arith
 
--- src/marks.rt:34:20
 is-above-requires : tie.Need-is-above-requires Inv-loop μ-loop
-is-above-requires c κs = ?
+is-above-requires c κs = search needs
 
--- src/marks.rt:34:9
 mul-marks : tie.Need-mul-marks Inv-loop μ-loop
-mul-marks c = ?
+mul-marks c = omega arith
 
--- src/marks.rt:34:9
 array-write-marks : tie.Need-array-write-marks Inv-loop μ-loop
-array-write-marks c = ?
+array-write-marks c = omega arith
 
--- src/marks.rt:35:34
 mul-is-above-3 : tie.Need-mul-is-above-3 Inv-loop μ-loop
-mul-is-above-3 c = ?
+mul-is-above-3 c = omega arith
 
--- src/marks.rt:35:34
 array-copy-out-is-above-2 : tie.Need-array-copy-out-is-above-2 Inv-loop μ-loop
-array-copy-out-is-above-2 c = ?
+array-copy-out-is-above-2 c = omega arith
 
--- src/marks.rt:35:49
 add-is-above : tie.Need-add-is-above Inv-loop μ-loop
-add-is-above c = ?
+add-is-above c = omega arith
 
--- src/marks.rt:35:43
 mul-is-above-4 : tie.Need-mul-is-above-4 Inv-loop μ-loop
-mul-is-above-4 c = ?
+mul-is-above-4 c = omega arith
 
--- src/marks.rt:35:43
 element-copy-out-is-above-2 : tie.Need-element-copy-out-is-above-2 Inv-loop μ-loop
-element-copy-out-is-above-2 c = ?
+element-copy-out-is-above-2 c = omega arith
 
--- src/marks.rt:35:25
 is-above-requires-2 : tie.Need-is-above-requires-2 Inv-loop μ-loop
-is-above-requires-2 c κs = ?
+is-above-requires-2 c κs = search needs
 
--- src/marks.rt:35:15
 add-marks : tie.Need-add-marks Inv-loop μ-loop
-add-marks c = ?
+add-marks c = omega arith
 
--- src/marks.rt:35:9
 mul-marks-2 : tie.Need-mul-marks-2 Inv-loop μ-loop
-mul-marks-2 c = ?
+mul-marks-2 c = omega arith
 
--- src/marks.rt:35:9
 array-write-marks-2 : tie.Need-array-write-marks-2 Inv-loop μ-loop
-array-write-marks-2 c = ?
+array-write-marks-2 c = omega arith
 
--- src/marks.rt:36:9
 add-i : tie.Need-add-i Inv-loop μ-loop
-add-i c = ?
+add-i c = omega arith
 
--- src/marks.rt:33:5
 loop-less : tie.Need-loop-less Inv-loop μ-loop
-loop-less c = ?
+loop-less c = omega arith
 
--- src/marks.rt:33:5
 loop-again : tie.Need-loop-again Inv-loop μ-loop
 loop-again c = ?
 
--- src/marks.rt:26:1
 returns : tie.Need-returns Inv-loop μ-loop
 returns c = ?
 
