@@ -5,3 +5,6 @@ pub mod Pairing
 pub mod FirstLaws
 pub mod RunTicks
 pub mod FirstTicks
+pub mod StateTracking
+pub mod FirstTracking
+pub mod Tracking
