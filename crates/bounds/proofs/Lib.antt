@@ -7,3 +7,6 @@ pub mod MissingRuns
 pub mod FirstLaws
 pub mod RunTicks
 pub mod FirstTicks
+pub mod StateTracking
+pub mod FirstTracking
+pub mod Tracking

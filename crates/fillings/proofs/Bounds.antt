@@ -72,7 +72,7 @@ cond-le false h l = l
 alert-up : (m s s′ : ℕ) → s ≤ s′ → s′ ≤ m → T (alert s) → T (alert s′)
 alert-up m s s′ h l t = let a = ltb→lt 0 s t in lt→ltb 0 s′ (omega arith)
 
-status-up : (m s s′ : ℕ) → s ≤ s′ → s′ ≤ m → T (status m s) → T (status m s′)
+pub status-up : (m s s′ : ℕ) → s ≤ s′ → s′ ≤ m → T (status m s) → T (status m s′)
 status-up m s s′ h l t =
     let a = eqb→eq s m (and-right (ltb 0 m) (eqb s m) t) in
     let e : s ≡ s′ = omega arith in
