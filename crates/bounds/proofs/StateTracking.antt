@@ -8,6 +8,7 @@ use lib.IntN.{pos}
 use lib.Signed.{ltZ}
 use lib.Dec.{ltb, eqb}
 use lib.ListN.{getD}
+use borrow.Author.Tests.{eq-eqb}
 use Rattle.lists.proofs.Bools.{tabulate-same}
 use Rattle.rules.specs.declared.Readings.{Readings}
 use Rattle.rules.specs.declared.Setting.{Setting}
@@ -24,7 +25,7 @@ use Rattle.fillings.proofs.BoundRuns.{least-run, greatest-run}
 use Rattle.bounds.specs.Plan.{testsOf, lanesOf}
 use Rattle.bounds.specs.Steps.{reading, tripsBy, clearsBy, seenBy, statesSeen, statesMissed, flagsOfStates}
 use Rattle.bounds.specs.promises.Tracking.{statesAt}
-use Rattle.bounds.proofs.Paired.{paired-low, paired-high, paired-same}
+use Rattle.bounds.proofs.Paired.{paired-low, paired-high, paired-same, paired-length}
 use Rattle.bounds.proofs.Numbers.{beyond-along, before-along}
 
 module _ (ss : List Setting) (i : ℕ) (h : i < 16) where
@@ -90,7 +91,7 @@ module _ (p : Config) (trace : ℕ → Shown) where
 
   pub flags-read : SoundConfig p → (k : ℕ) → flagsOfStates (lanesOf (p .settings)) (statesAt p trace k) ≡ flagsAt p trace k
   unfolding flagsOfStates
-  flags-read ok k = tabulate-same 16 _ _ same
+  flags-read ok k = rw (eq-eqb _ _ (paired-length (λ i. leastAfter (ruleOf p i) trace k) (λ i. greatestAfter (ruleOf p i) trace k))) (tabulate-same 16 _ _ same)
     where
       same : (i : ℕ) → i < 16
           → flagsBetween (rowAt i) (getD (lanesOf (p .settings)) i 0) (getD (statesAt p trace k) i 0) (getD (statesAt p trace k) (16 + i) 0)

@@ -1,6 +1,7 @@
 use Prim.Native.Nat.{_-_}
 use borrow.Author.Needs.{needs}
 use native.Mathlib.Omega.{arith}
+use Rattle.flags.specs.declared.Flag.the-variants.{Unknown}
 use Rattle.lists.proofs.Laying.{Laying, laying-start, laying-next, laying-end}
 use Rattle.fillings.specs.Bounds.{flagsBetween}
 use Rattle.rules.specs.Table.{rowAt}
@@ -13,7 +14,7 @@ use Rattle.bounds.proofs.flags_in.Lts as lts
 use Rattle.bounds.proofs.reading.rule_flags.Reads as rule-flags-reads
 
 abbrev Inv-loop : tie.InvT-loop
-Inv-loop lanes states flags₀ i₀ flags i = Laying unknown 16 (λ j. flagsBetween (rowAt j) (getD lanes j 0) (getD states j 0) (getD states (16 + j) 0)) (flags .of) i
+Inv-loop lanes states flags₀ i₀ flags i = Laying (record { alert = Unknown; status = Unknown }) 16 (λ j. flagsBetween (rowAt j) (getD lanes j 0) (getD states j 0) (getD states (16 + j) 0)) (flags .of) i
 
 abbrev μ-loop : tie.MeasureT-loop
 μ-loop lanes states flags₀ i₀ flags i = 16 - i

@@ -1,3 +1,6 @@
+use Rattle.rules.proofs.Rows.{row-of}
+use Rattle.rules.specs.declared.Row.{Row}
+use mathlib.Core.Path.{refl, ap, _∙_}
 use Prim.Native.Nat.{_-_}
 use borrow.Author.Needs.{needs}
 use native.Mathlib.Omega.{arith}
@@ -9,11 +12,6 @@ use mathlib.Core.Bool.{cond}
 use Rattle.bounds.proofs.Pairing.{Pairing, pairing-start, pairing-next, pairing-end}
 use Rattle.bounds.proofs.lanes_of.Statement.{statement}
 use Rattle.bounds.proofs.lanes_of.Tie as tie
-use Rattle.bounds.proofs.lanes_of.Reads as reads
-use Rattle.bounds.proofs.lanes_of.Lts as lts
-use Rattle.bounds.proofs.lanes.every_lane.Reads as every-lane-reads
-use Rattle.bounds.proofs.lanes.top_lane.Reads as top-lane-reads
-use Rattle.rules.proofs.all_rows.Reads as all-rows-reads
 
 abbrev Inv-loop : tie.InvT-loop
 Inv-loop settings table lanes₀ i₀ lanes i = Pairing 0 (λ j. top (settingOf (settings .of) j .time)) (λ j. cond (rowAt j .even) 0 1) lanes₀ lanes i
@@ -25,7 +23,7 @@ all-rows-requires : tie.Need-all-rows-requires Inv-loop μ-loop
 all-rows-requires c κs = search needs
 
 loop-holds : tie.Need-loop-holds Inv-loop μ-loop
-loop-holds c = ?
+loop-holds c = pairing-start 0 _ _ _ refl
 
 mul-setting : tie.Need-mul-setting Inv-loop μ-loop
 mul-setting c = omega arith
@@ -67,10 +65,11 @@ loop-less : tie.Need-loop-less Inv-loop μ-loop
 loop-less c = omega arith
 
 loop-again : tie.Need-loop-again Inv-loop μ-loop
-loop-again c = ?
+loop-again c = pairing-next 0 _ _ _ (c .before .before .before .before .before .loop .inv) (c .before .before .before .before .loop-test .taken) _ _ (c .before .top-lane .ensures) (c .every-lane .ensures ∙ ap (λ (w : Row). cond (w .even) 0 1) (row-of _ _ _ (c .before .before .before .before .before .before .all-rows .ensures) (c .before .before .before .before .loop-test .taken)))
 
 returns : tie.Need-returns Inv-loop μ-loop
-returns c = ?
+unfolding lanesOf
+returns c = pairing-end 0 _ _ _ (c .before .loop .inv) (c .loop-test .left)
 
 pub lanes-of-spec : {M : Type 1} → statement M
 lanes-of-spec =

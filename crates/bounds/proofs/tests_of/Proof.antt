@@ -1,17 +1,20 @@
+use Rattle.rules.proofs.Rows.{row-of}
+use Rattle.rules.specs.declared.Row.{Row}
+use mathlib.Core.Path.{refl, ap, ap₂, _∙_}
 use Prim.Native.Nat.{_-_}
 use borrow.Author.Needs.{needs}
 use native.Mathlib.Omega.{arith}
 use Rattle.bounds.specs.Plan.{along, testsOf}
 use Rattle.limits.specs.Limits.{settingOf}
 use Rattle.rules.specs.Table.{rowAt}
-use lib.IntN.{pos}
+use lib.IntN.{ℤ, pos}
+use mir.Syntax.{w32}
+use mir.Val.{SFits}
+use mir.Facts.{toZ-ofZ}
+use Rattle.bounds.proofs.Values.{told}
 use Rattle.bounds.proofs.Pairing.{Pairing, pairing-start, pairing-next, pairing-end}
 use Rattle.bounds.proofs.tests_of.Statement.{statement}
 use Rattle.bounds.proofs.tests_of.Tie as tie
-use Rattle.bounds.proofs.tests_of.Reads as reads
-use Rattle.bounds.proofs.tests_of.Lts as lts
-use Rattle.bounds.proofs.reading.number_along.Reads as number-along-reads
-use Rattle.rules.proofs.all_rows.Reads as all-rows-reads
 
 abbrev Inv-loop : tie.InvT-loop
 Inv-loop settings table tests₀ i₀ tests i = Pairing (pos 0) (λ j. along (rowAt j .side) (settingOf (settings .of) j .threshold)) (λ j. along (rowAt j .side) (settingOf (settings .of) j .recovery)) tests₀ tests i
@@ -23,7 +26,7 @@ all-rows-requires : tie.Need-all-rows-requires Inv-loop μ-loop
 all-rows-requires c κs = search needs
 
 loop-holds : tie.Need-loop-holds Inv-loop μ-loop
-loop-holds c = ?
+loop-holds c = pairing-start (pos 0) _ _ _ refl
 
 mul-setting : tie.Need-mul-setting Inv-loop μ-loop
 mul-setting c = omega arith
@@ -65,10 +68,18 @@ loop-less : tie.Need-loop-less Inv-loop μ-loop
 loop-less c = omega arith
 
 loop-again : tie.Need-loop-again Inv-loop μ-loop
-loop-again c = ?
+loop-again c = 
+    let h = c .before .before .before .before .before .before .loop-test .taken in
+    let t : SFits w32 (settingOf (c .before .before .before .before .before .before .before .before .before .args .t1 .of) (c .before .before .before .before .before .before .before .loop .i) .threshold) = search needs in
+    let b : SFits w32 (settingOf (c .before .before .before .before .before .before .before .before .before .args .t1 .of) (c .before .before .before .before .before .before .before .loop .i) .recovery) = search needs in
+    let r = row-of _ _ _ (c .before .before .before .before .before .before .before .before .all-rows .ensures) h in
+    pairing-next (pos 0) _ _ _ (c .before .before .before .before .before .before .before .loop .inv) h _ _
+    (told {w = w32} (search (c .before .before .number-along .ok)) (c .before .before .number-along .ensures ∙ ap₂ (λ (w : Row) (z : ℤ). along (w .side) z) r (toZ-ofZ t)))
+    (told {w = w32} (search (c .number-along2 .ok)) (c .number-along2 .ensures ∙ ap₂ (λ (w : Row) (z : ℤ). along (w .side) z) r (toZ-ofZ b)))
 
 returns : tie.Need-returns Inv-loop μ-loop
-returns c = ?
+unfolding testsOf
+returns c = pairing-end (pos 0) _ _ _ (c .before .loop .inv) (c .loop-test .left)
 
 pub tests-of-spec : {M : Type 1} → statement M
 tests-of-spec =

@@ -1,12 +1,17 @@
-use Prim.Native.Nat.{_-_}
+use mathlib.Core.Path.{refl, ap, ap₂, sym, _∙_}
+use lib.IntN.{ℤ, pos}
+use lib.Signed.{ltZ}
+use lib.ListN.{getD}
+use mir.Syntax.{w32}
+use mir.Val.{SFits}
+use mir.Facts.{toZ-ofZ}
+use Rattle.bounds.specs.inner.Marks.{least32, greatest32, mark}
+use Prim.Native.Nat.{_+_, _-_}
 use borrow.Author.Needs.{needs}
 use native.Mathlib.Omega.{arith}
 use Rattle.bounds.proofs.Moving.{Marking, marking-start, marking-next, marking-end}
 use Rattle.bounds.proofs.marks.marks_of.Statement.{statement}
 use Rattle.bounds.proofs.marks.marks_of.Tie as tie
-use Rattle.bounds.proofs.marks.marks_of.Reads as reads
-use Rattle.bounds.proofs.marks.marks_of.Lts as lts
-use Rattle.bounds.proofs.marks.is_above.Reads as is-above-reads
 
 abbrev Inv-loop : tie.InvT-loop
 Inv-loop tests up down marks₀ i₀ marks i = Marking up down tests marks₀ marks i
@@ -15,7 +20,7 @@ abbrev μ-loop : tie.MeasureT-loop
 μ-loop tests up down marks₀ i₀ marks i = 16 - i
 
 loop-holds : tie.Need-loop-holds Inv-loop μ-loop
-loop-holds c = ?
+loop-holds c = marking-start _ _ _ _ refl
 
 mul-is-above : tie.Need-mul-is-above Inv-loop μ-loop
 mul-is-above c = omega arith
@@ -72,10 +77,24 @@ loop-less : tie.Need-loop-less Inv-loop μ-loop
 loop-less c = omega arith
 
 loop-again : tie.Need-loop-again Inv-loop μ-loop
-loop-again c = ?
+loop-again c =
+    let low : SFits w32 (getD (c .before .before .before .before .before .before .before .before .args .tests .now) (c .before .before .before .before .before .before .before .loop .i) (pos 0)) = search needs in
+    let high : SFits w32 (getD (c .before .before .before .before .before .before .before .before .args .tests .now) (16 + c .before .before .before .before .before .before .before .loop .i) (pos 0)) = search needs in
+    let up : SFits w32 (getD (c .before .before .before .before .before .before .before .before .args .t1) (c .before .before .before .before .before .before .before .loop .i) (pos 0)) = search needs in
+    let down : SFits w32 (getD (c .before .before .before .before .before .before .before .before .args .t2) (c .before .before .before .before .before .before .before .loop .i) (pos 0)) = search needs in
+    let a = c .before .before .before .is-above .ensures in
+    let b = c .is-above2 .ensures in
+    marking-next _ _ _ _ _ _ (c .before .before .before .before .before .before .before .loop .inv) (c .before .before .before .before .before .before .loop-test .taken)
+    (a .0 ∙ ap₂ (λ (x y : ℤ). mark (ltZ x y)) (toZ-ofZ low) (toZ-ofZ up))
+    (ap (λ (x : ℤ). ltZ x least32) (sym (toZ-ofZ low)) ∙ a .1 .0)
+    (b .0 ∙ ap₂ (λ (x y : ℤ). mark (ltZ x y)) (toZ-ofZ down) (toZ-ofZ high))
+    (ap (ltZ greatest32) (sym (toZ-ofZ high)) ∙ b .1 .1)
 
 returns : tie.Need-returns Inv-loop μ-loop
-returns c = ?
+returns c = 
+    let m = c .before .loop .inv in
+    let h = c .loop-test .left in
+    (marking-end _ _ _ _ m h, ((λ i l. m .tested .least i (omega arith)), λ i l. m .tested .greatest i (omega arith)))
 
 pub marks-of-spec : {M : Type 1} → statement M
 marks-of-spec =
