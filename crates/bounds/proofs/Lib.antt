@@ -4,6 +4,7 @@ pub mod Paired
 pub mod Pairing
 pub mod Moving
 pub mod MissingRuns
+pub mod Noting
 pub mod FirstLaws
 pub mod RunTicks
 pub mod FirstTicks

@@ -19,7 +19,7 @@ use Rattle.rules.specs.Quantities.{qualified}
 use Rattle.rules.specs.Evaluation.{step}
 use Rattle.bounds.specs.Lanes.{paired}
 use Rattle.bounds.specs.Steps.{reading, tripsBy, clearsBy, seenBy, statesSeen}
-use Rattle.bounds.specs.Firsts.{rises, rulesRise}
+use Rattle.bounds.specs.Firsts.{notedAt, rises, rulesRise, firstsSeen}
 use Rattle.bounds.specs.inner.Marks.{least32, greatest32, towards, back, mark, marksOf, movedBy, statesMoved}
 use Rattle.bounds.proofs.Paired.{paired-low, paired-high, paired-same}
 use Rattle.bounds.proofs.Pairing.{Pairing, pairing-start, pairing-next, pairing-end, high-kept, long-low}
@@ -157,3 +157,15 @@ states-seen tests lanes idle tick r even xs marks up down t eu ed em ee =
     same i h s =
         ap₂ (λ (b c : Bool). cond (ltb 0 (getD lanes (16 + i) 0) || even) (step (getD lanes i 0) b c s) s) (trips i h) (clears i h)
         ∙ ap (λ (b : Bool). cond (ltb 0 (getD lanes (16 + i) 0) || b) (step (getD lanes i 0) (tripsBy tests idle r i) (clearsBy tests r i) s) s) ee
+
+-- The first ticks after a seen tick, by whether a state has come to its top.
+module _ (lanes : List ℕ) (tick : ℕ) (ss ss′ fs : List ℕ) {any : Bool} (e : any ≡ someBelow 16 (rulesRise lanes ss ss′)) where
+  pub firsts-noted : any ≡ true → {out : List ℕ}
+      → out ≡ paired (λ i. notedAt (getD lanes i 0) tick (getD ss′ i 0) (getD fs i 0)) (λ i. notedAt (getD lanes i 0) tick (getD ss′ (16 + i) 0) (getD fs (16 + i) 0))
+      → out ≡ firstsSeen lanes tick ss ss′ fs
+  unfolding firstsSeen
+  firsts-noted t o = rw (sym e ∙ t) o
+
+  pub firsts-kept : any ≡ false → fs ≡ firstsSeen lanes tick ss ss′ fs
+  unfolding firstsSeen
+  firsts-kept t = rw (sym e ∙ t) refl

@@ -1,3 +1,6 @@
+use Rattle.bounds.specs.Steps.{flagsOfStates}
+use mathlib.Core.Path.{refl}
+use borrow.Author.Tests.{eq-eqb, ne-eqb}
 use Prim.Native.Nat.{_-_}
 use borrow.Author.Needs.{needs}
 use native.Mathlib.Omega.{arith}
@@ -9,9 +12,6 @@ use lib.ListN.{getD}
 use Prim.Native.Nat.{_+_, _-_}
 use Rattle.bounds.proofs.flags_in.Statement.{statement}
 use Rattle.bounds.proofs.flags_in.Tie as tie
-use Rattle.bounds.proofs.flags_in.Reads as reads
-use Rattle.bounds.proofs.flags_in.Lts as lts
-use Rattle.bounds.proofs.reading.rule_flags.Reads as rule-flags-reads
 
 abbrev Inv-loop : tie.InvT-loop
 Inv-loop lanes states flags₀ i₀ flags i = Laying (record { alert = Unknown; status = Unknown }) 16 (λ j. flagsBetween (rowAt j) (getD lanes j 0) (getD states j 0) (getD states (16 + j) 0)) (flags .of) i
@@ -20,10 +20,11 @@ abbrev μ-loop : tie.MeasureT-loop
 μ-loop lanes states flags₀ i₀ flags i = 16 - i
 
 returns : tie.Need-returns Inv-loop μ-loop
-returns c = ?
+unfolding flagsOfStates
+returns c = rw (ne-eqb _ _ (c .if1 .taken)) refl
 
 loop-holds : tie.Need-loop-holds Inv-loop μ-loop
-loop-holds c = ?
+loop-holds c = laying-start _ 16 _ _ refl
 
 mul-top : tie.Need-mul-top Inv-loop μ-loop
 mul-top c = omega arith
@@ -35,7 +36,7 @@ mul-least : tie.Need-mul-least Inv-loop μ-loop
 mul-least c = omega arith
 
 shared-slice-read-least : tie.Need-shared-slice-read-least Inv-loop μ-loop
-shared-slice-read-least c = ?
+shared-slice-read-least c = omega (arith, c .before .before .before .before .if1 .left)
 
 add-greatest : tie.Need-add-greatest Inv-loop μ-loop
 add-greatest c = omega arith
@@ -44,7 +45,7 @@ mul-greatest : tie.Need-mul-greatest Inv-loop μ-loop
 mul-greatest c = omega arith
 
 shared-slice-read-greatest : tie.Need-shared-slice-read-greatest Inv-loop μ-loop
-shared-slice-read-greatest c = ?
+shared-slice-read-greatest c = omega (arith, c .before .before .before .before .before .if1 .left)
 
 rule-flags-requires : tie.Need-rule-flags-requires Inv-loop μ-loop
 rule-flags-requires c κs = search needs
@@ -62,10 +63,11 @@ loop-less : tie.Need-loop-less Inv-loop μ-loop
 loop-less c = omega arith
 
 loop-again : tie.Need-loop-again Inv-loop μ-loop
-loop-again c = ?
+loop-again c = laying-next _ 16 _ _ (c .before .before .before .before .before .loop .inv) (c .before .before .before .before .loop-test .taken) (c .rule-flags .ensures _)
 
 returns-2 : tie.Need-returns-2 Inv-loop μ-loop
-returns-2 c = ?
+unfolding flagsOfStates
+returns-2 c = rw (eq-eqb _ _ (c .before .before .if1 .left)) (laying-end _ 16 _ (c .before .loop .inv) (c .loop-test .left))
 
 pub flags-in-spec : {M : Type 1} → statement M
 flags-in-spec =

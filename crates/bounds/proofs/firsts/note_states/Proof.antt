@@ -1,24 +1,20 @@
+use mathlib.Core.Path.{sym, _∙_}
 use Prim.Native.Nat.{_-_}
 use borrow.Author.Needs.{needs}
 use native.Mathlib.Omega.{arith}
-use Rattle.bounds.specs.Firsts.{notedAt}
-use Rattle.bounds.proofs.Pairing.{Pairing, pairing-start, pairing-next, pairing-end}
-use lib.ListN.{getD}
-use Prim.Native.Nat.{_+_, _-_}
+use Rattle.bounds.proofs.Noting.{Noting, noting-start, noting-next, noting-end}
+use Prim.Native.Nat.{_-_}
 use Rattle.bounds.proofs.firsts.note_states.Statement.{statement}
 use Rattle.bounds.proofs.firsts.note_states.Tie as tie
-use Rattle.bounds.proofs.firsts.note_states.Reads as reads
-use Rattle.bounds.proofs.firsts.note_states.Lts as lts
-use Rattle.bounds.proofs.firsts.note_lane.Reads as note-lane-reads
 
 abbrev Inv-loop : tie.InvT-loop
-Inv-loop lanes tick states firsts₀ i₀ firsts i = Pairing 0 (λ j. notedAt (getD lanes j 0) tick (getD states j 0) (getD firsts₀ j 0)) (λ j. notedAt (getD lanes j 0) tick (getD states (16 + j) 0) (getD firsts₀ (16 + j) 0)) firsts₀ firsts i
+Inv-loop lanes tick states firsts₀ i₀ firsts i = Noting lanes tick states firsts₀ firsts i
 
 abbrev μ-loop : tie.MeasureT-loop
 μ-loop lanes tick states firsts₀ i₀ firsts i = 16 - i
 
 loop-holds : tie.Need-loop-holds Inv-loop μ-loop
-loop-holds c = ?
+loop-holds c = noting-start _ _ _ _ (c .before .before .pre .1)
 
 mul-top : tie.Need-mul-top Inv-loop μ-loop
 mul-top c = omega arith
@@ -30,7 +26,7 @@ mul-note-lane : tie.Need-mul-note-lane Inv-loop μ-loop
 mul-note-lane c = omega arith
 
 shared-slice-read-note-lane : tie.Need-shared-slice-read-note-lane Inv-loop μ-loop
-shared-slice-read-note-lane c = ?
+shared-slice-read-note-lane c = omega (arith, c .before .before .before .before .before .before .before .pre .0)
 
 note-lane-requires : tie.Need-note-lane-requires Inv-loop μ-loop
 note-lane-requires c κs = search needs
@@ -45,7 +41,7 @@ mul-note-lane-2 : tie.Need-mul-note-lane-2 Inv-loop μ-loop
 mul-note-lane-2 c = omega arith
 
 shared-slice-read-note-lane-2 : tie.Need-shared-slice-read-note-lane-2 Inv-loop μ-loop
-shared-slice-read-note-lane-2 c = ?
+shared-slice-read-note-lane-2 c = omega (arith, c .before .before .before .before .before .before .before .before .before .before .before .before .pre .0)
 
 note-lane-requires-2 : tie.Need-note-lane-requires-2 Inv-loop μ-loop
 note-lane-requires-2 c κs = search needs
@@ -57,13 +53,13 @@ loop-less : tie.Need-loop-less Inv-loop μ-loop
 loop-less c = omega arith
 
 loop-again : tie.Need-loop-again Inv-loop μ-loop
-loop-again c = ?
+loop-again c = noting-next _ _ _ _ _ _ (c .before .before .before .before .before .before .before .before .before .before .before .before .loop .inv) (c .before .before .before .before .before .before .before .before .before .before .before .loop-test .taken) (c .before .before .before .before .before .before .before .note-lane .ensures) (c .note-lane2 .ensures)
 
 same-length : tie.Need-same-length Inv-loop μ-loop
-same-length c = ?
+same-length c = c .before .loop .inv .pairing .long ∙ sym (c .before .before .before .before .pre .1)
 
 returns : tie.Need-returns Inv-loop μ-loop
-returns c = ?
+returns c = noting-end _ _ _ _ (c .before .loop .inv) (c .loop-test .left)
 
 pub note-states-spec : {M : Type 1} → statement M
 note-states-spec =

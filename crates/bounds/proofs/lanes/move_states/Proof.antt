@@ -1,13 +1,10 @@
+use mathlib.Core.Path.{sym, _∙_}
 use Prim.Native.Nat.{_-_}
 use borrow.Author.Needs.{needs}
 use native.Mathlib.Omega.{arith}
 use Rattle.bounds.proofs.Moving.{Moving, moving-start, moving-next, moving-end}
 use Rattle.bounds.proofs.lanes.move_states.Statement.{statement}
 use Rattle.bounds.proofs.lanes.move_states.Tie as tie
-use Rattle.bounds.proofs.lanes.move_states.Reads as reads
-use Rattle.bounds.proofs.lanes.move_states.Lts as lts
-use Rattle.bounds.proofs.lanes.goes.Reads as goes-reads
-use Rattle.bounds.proofs.lanes.move_lane.Reads as move-lane-reads
 
 abbrev Inv-loop : tie.InvT-loop
 Inv-loop lanes even states₀ marks any₀ i₀ states any i = Moving marks lanes even states₀ states any i
@@ -16,7 +13,7 @@ abbrev μ-loop : tie.MeasureT-loop
 μ-loop lanes even states₀ marks any₀ i₀ states any i = 16 - i
 
 loop-holds : tie.Need-loop-holds Inv-loop μ-loop
-loop-holds c = ?
+loop-holds c = moving-start _ _ _ _ (c .before .pre)
 
 add-goes : tie.Need-add-goes Inv-loop μ-loop
 add-goes c = omega arith
@@ -67,13 +64,16 @@ loop-less : tie.Need-loop-less Inv-loop μ-loop
 loop-less c = omega arith
 
 loop-again : tie.Need-loop-again Inv-loop μ-loop
-loop-again c = ?
+loop-again c = 
+    let m = c .before .before .before .before .before .before .move-lane in
+    let n = c .before .before .move-lane2 in
+    moving-next _ _ _ _ (c .before .before .before .before .before .before .before .before .before .before .before .before .loop .inv) (c .before .before .before .before .before .before .before .before .before .before .before .loop-test .taken) (m .last .0) _ (c .before .before .before .before .before .before .before .before .before .goes .result) _ _ (c .before .before .before .before .before .before .before .before .before .goes .ensures) (m .ensures .0) (m .ensures .1) (n .ensures .0) (n .ensures .1)
 
 same-length : tie.Need-same-length Inv-loop μ-loop
-same-length c = ?
+same-length c = c .before .loop .inv .pairing .long ∙ sym (c .before .before .before .pre)
 
 returns : tie.Need-returns Inv-loop μ-loop
-returns c = ?
+returns c = moving-end _ _ _ _ (c .before .loop .inv) (c .loop-test .left)
 
 pub move-states-spec : {M : Type 1} → statement M
 move-states-spec =

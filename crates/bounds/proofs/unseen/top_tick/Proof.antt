@@ -20,7 +20,12 @@ tick-of-requires : tie.Need-tick-of-requires
 tick-of-requires c κs = search needs
 
 cast-result : tie.Need-cast-result
-cast-result c = ?
+cast-result c = 
+    let e = c .before .before .before .pre in
+    let h : c .before .before .before .args .top - c .before .before .before .args .s ≤ evaluations (c .before .before .before .args .row) (c .before .before .before .args .first) (suc (c .before .before .before .args .last)) = omega (arith, c .before .if2 .taken, e) in
+    let some : 0 < c .before .before .before .args .top - c .before .before .before .args .s = omega (arith, c .before .before .if1 .taken) in
+    let run : c .before .before .before .args .first ≤ c .before .before .before .args .last = by-order (c .before .before .before .args .last) (c .before .before .before .args .first) (λ l. absurd (omega (arith, h, some, evaluations-none (c .before .before .before .args .row) (c .before .before .before .args .first) (c .before .before .before .args .last) l))) (λ l. l) in
+    record { fits = omega (arith, c .tick-of .ensures, tick-until (c .before .before .before .args .row) (c .before .before .before .args .first) (c .before .before .before .args .last) (c .before .before .before .args .top - c .before .before .before .args .s) run some h, c .before .before .before .fits .last) }
 
 returns : tie.Need-returns
 returns c = rw (lt-ltb _ _ (c .before .before .if1 .taken), le-leb _ _ (c .before .if2 .taken)) (c .tick-of .ensures)
