@@ -16,14 +16,10 @@ cast-fits t f = rw (toZ-ofZ f) (sfits-widen t f)
 pub cast-is : {w : Width} (v : Width) {z : ℤ} → T (leb (hbits w) (hbits v)) → SFits w z → toZ v (ofZ v (toZ w (ofZ w z))) ≡ z
 cast-is v t f = toZ-ofZ {w = v} (cast-fits t f) ∙ toZ-ofZ f
 
--- Of what was found and a number that is cast to its type, the one that a test picks.
-pub picked : {w v : Width} {a b : ℤ} (test : ℤ → ℤ → Bool) → T (leb (hbits w) (hbits v)) → SFits v a → SFits w b
-    → test (toZ v (ofZ v a)) (toZ v (ofZ v (toZ w (ofZ w b)))) ≡ true → toZ v (ofZ v (toZ w (ofZ w b))) ≡ cond (test a b) b a
-picked {v = v} test t f g e = rw (cast-is v t g, rw (toZ-ofZ f, cast-is v t g) at e)
-
-pub kept : {w v : Width} {a b : ℤ} (test : ℤ → ℤ → Bool) → T (leb (hbits w) (hbits v)) → SFits v a → SFits w b
-    → test (toZ v (ofZ v a)) (toZ v (ofZ v (toZ w (ofZ w b)))) ≡ false → toZ v (ofZ v a) ≡ cond (test a b) b a
-kept {v = v} test t f g e = rw (toZ-ofZ f, rw (toZ-ofZ f, cast-is v t g) at e)
+-- The one of two numbers that a test chooses.
+pub chosen : {w : Width} {a b : ℤ} {t : Bool} (test : ℤ → ℤ → Bool) → SFits w a → SFits w b → test (toZ w (ofZ w a)) (toZ w (ofZ w b)) ≡ t → toZ w (ofZ w (cond t b a)) ≡ cond (test a b) b a
+chosen {t = true} test f g e = rw (toZ-ofZ g, rw (toZ-ofZ f, toZ-ofZ g) at e)
+chosen {t = false} test f g e = rw (toZ-ofZ f, rw (toZ-ofZ f, toZ-ofZ g) at e)
 
 -- A test of a number against a limit that is cast to its type.
 pub tested : {w v : Width} {z u limit : ℤ} {b : Bool} (test : ℤ → ℤ → Bool) → T (leb (hbits w) (hbits v)) → SFits v z → SFits w limit → z ≡ u

@@ -1,14 +1,13 @@
 -- The readings of a sample, from what was found in its voltages and in its temperatures, and which samples are read.
 use Prim.Native.Nat.{ℕ, _+_, _≤_, _<_}
 use mathlib.Core.Path.{_≡_}
-use mathlib.Core.Bool.{true}
 use mathlib.Core.List.{List}
 use lib.IntN.{ℤ}
 use lib.ListN.{length}
 use borrow.Author.Tests.{le-leb, lt-leb}
 use Rattle.refusals.specs.Refusals.{answer, refused}
 use Rattle.rules.specs.declared.Readings.{Readings}
-use Rattle.rules.specs.Samples.{Sample, cellCount, readingsOf}
+use Rattle.rules.specs.Samples.{Sample, readingsOf}
 use Rattle.trace.specs.Records.{sampleWidth, stampedAt}
 use Rattle.samples.specs.declared.cells.Volts.{Volts}
 use Rattle.samples.specs.declared.cells.Temps.{Temps}
@@ -22,11 +21,11 @@ unfolding readingsOf
 readings-are x e c b v t = rw (e, c, b, v, t)
 
 -- A sample that runs past the end of its part, and one that lies within it.
-module _ (n : ℕ) (part : List ℕ) (at : ℕ) (cells : cellCount n ≡ true) where
+module _ (n : ℕ) (part : List ℕ) (at : ℕ) where
   pub cut : length part < at + sampleWidth n → readAtAnswer n part at ≡ refused 5 0
   unfolding readAtAnswer
-  cut h = rw (cells, lt-leb (at + sampleWidth n) (length part) h)
+  cut h = rw (lt-leb (at + sampleWidth n) (length part) h)
 
   pub whole : at + sampleWidth n ≤ length part → readAtAnswer n part at ≡ answer (readingsOf (stampedAt n part at .sample))
   unfolding readAtAnswer
-  whole h = rw (cells, le-leb (at + sampleWidth n) (length part) h)
+  whole h = rw (le-leb (at + sampleWidth n) (length part) h)
