@@ -145,6 +145,7 @@ states-seen tests lanes idle tick r even xs marks up down t eu ed em ee =
         ∙ ap (λ (l : List ℤ). ltZ (getD tests i (pos 0)) (getD l i (pos 0))) eu
         ∙ ap (ltZ (getD tests i (pos 0))) (getD-tabulate 16 (λ j. cond (qualified idle (rowAt j .quantity) r) (reading (rowAt j) r) least32) (pos 0) i h)
         ∙ counted (qualified idle (rowAt i .quantity) r) (getD tests i (pos 0)) (reading (rowAt i) r) (t .least i h)
+
     clears : (i : ℕ) → i < 16 → ltb 0 (getD marks (16 + i) 0) ≡ clearsBy tests r i
     clears i h =
         ap (λ (l : List ℕ). ltb 0 (getD l (16 + i) 0)) em
@@ -153,6 +154,7 @@ states-seen tests lanes idle tick r even xs marks up down t eu ed em ee =
         ∙ ap (λ (l : List ℤ). ltZ (getD l i (pos 0)) (getD tests (16 + i) (pos 0))) ed
         ∙ ap (λ (z : ℤ). ltZ z (getD tests (16 + i) (pos 0))) (getD-tabulate 16 (λ j. cond (rowAt j .recovers) (reading (rowAt j) r) greatest32) (pos 0) i h)
         ∙ counted-back (rowAt i .recovers) (reading (rowAt i) r) (getD tests (16 + i) (pos 0)) (t .greatest i h)
+
     same : (i : ℕ) → i < 16 → (s : ℕ) → movedBy marks lanes even i s ≡ seenBy tests lanes idle tick r i s
     same i h s =
         ap₂ (λ (b c : Bool). cond (ltb 0 (getD lanes (16 + i) 0) || even) (step (getD lanes i 0) b c s) s) (trips i h) (clears i h)

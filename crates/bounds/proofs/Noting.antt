@@ -31,8 +31,10 @@ module _ (lanes : List ℕ) (tick : ℕ) (ss fs₀ : List ℕ) where
       let b : ℕ = notedAt (getD lanes i 0) tick (getD ss (16 + i) 0) (getD ys (16 + i) 0) in
       let y : getD ys (16 + i) 0 ≡ getD fs₀ (16 + i) 0 = ap (λ (l : List ℕ). getD l (16 + i) 0) ey ∙ high-kept 0 low high fs₀ (n .pairing) h a in
       let z : zs ≡ set (set fs i a) (16 + i) b = ez ∙ ap (λ (l : List ℕ). set l (16 + i) b) ey in
-      rw z (record { pairing = pairing-next 0 low high fs₀ (n .pairing) h a b (ap (notedAt (getD lanes i 0) tick (getD ss i 0)) (n .pairing .restLow i (omega arith) h))
-      (ap (notedAt (getD lanes i 0) tick (getD ss (16 + i) 0)) y) })
+      rw z (record {
+        pairing = pairing-next 0 low high fs₀ (n .pairing) h a b (ap (notedAt (getD lanes i 0) tick (getD ss i 0)) (n .pairing .restLow i (omega arith) h))
+            (ap (notedAt (getD lanes i 0) tick (getD ss (16 + i) 0)) y);
+      })
 
   pub noting-end : {fs : List ℕ} {i : ℕ} → Noting fs i → 16 ≤ i → fs ≡ paired low high
   noting-end n = pairing-end 0 low high fs₀ (n .pairing)

@@ -63,7 +63,7 @@ loop-less : tie.Need-loop-less Inv-loop μ-loop
 loop-less c = omega arith
 
 loop-again : tie.Need-loop-again Inv-loop μ-loop
-loop-again c = laying-next _ 16 _ _ (c .before .before .before .before .before .loop .inv) (c .before .before .before .before .loop-test .taken) (c .rule-flags .ensures _)
+loop-again c = laying-next _ 16 _ _ (c .before .before .before .before .before .loop .inv) (c .before .before .before .before .loop-test .taken) (c .rule-flags .ensures (rowAt (c .before .before .before .before .before .loop .i)))
 
 returns-2 : tie.Need-returns-2 Inv-loop μ-loop
 unfolding flagsOfStates

@@ -48,7 +48,7 @@ loop-less : tie.Need-loop-less Inv-loop μ-loop
 loop-less c = omega arith
 
 loop-again : tie.Need-loop-again Inv-loop μ-loop
-loop-again c = 
+loop-again c =
     let h = c .before .before .before .before .before .before .before .before .before .loop-test .taken in
     missing-next _ _ _ _ _ _ _ _ (c .before .before .before .before .before .before .before .before .before .before .loop .inv) h (row-of _ _ _ (c .before .before .before .before .before .before .before .before .before .before .before .all-rows .ensures) h) (c .before .before .before .before .miss-rule .ensures .0) (c .before .before .before .before .miss-rule .ensures .1)
 

@@ -68,7 +68,7 @@ loop-less : tie.Need-loop-less Inv-loop μ-loop
 loop-less c = omega arith
 
 loop-again : tie.Need-loop-again Inv-loop μ-loop
-loop-again c = 
+loop-again c =
     let h = c .before .before .before .before .before .before .loop-test .taken in
     let t : SFits w32 (settingOf (c .before .before .before .before .before .before .before .before .before .args .t1 .of) (c .before .before .before .before .before .before .before .loop .i) .threshold) = search needs in
     let b : SFits w32 (settingOf (c .before .before .before .before .before .before .before .before .before .args .t1 .of) (c .before .before .before .before .before .before .before .loop .i) .recovery) = search needs in

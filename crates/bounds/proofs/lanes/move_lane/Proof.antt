@@ -33,9 +33,10 @@ same-length : tie.Need-same-length
 same-length c = search needs
 
 returns : tie.Need-returns
-returns c = 
-    (ap (set (c .before .before .before .before .before .args .states .now) (c .before .before .before .before .before .args .j)) (c .before .chosen .ensures ∙ ap (λ (n : ℕ). cond (c .before .before .before .before .before .args .go) n (getD (c .before .before .before .before .before .args .states .now) (c .before .before .before .before .before .args .j) 0)) (c .before .before .stepped .ensures)),
-    c .has-risen .ensures ∙ ap (rises (c .before .before .before .before .before .args .top) _) (sym (getD-set-same (c .before .before .before .before .before .args .states .now) (c .before .before .before .before .before .args .j) (c .before .chosen .result) 0 (c .before .before .before .before .before .pre))))
+returns c = (
+  ap (set (c .before .before .before .before .before .args .states .now) (c .before .before .before .before .before .args .j)) (c .before .chosen .ensures ∙ ap (λ (n : ℕ). cond (c .before .before .before .before .before .args .go) n (getD (c .before .before .before .before .before .args .states .now) (c .before .before .before .before .before .args .j) 0)) (c .before .before .stepped .ensures)),
+  c .has-risen .ensures ∙ ap (rises (c .before .before .before .before .before .args .top) _) (sym (getD-set-same (c .before .before .before .before .before .args .states .now) (c .before .before .before .before .before .args .j) (c .before .chosen .result) 0 (c .before .before .before .before .before .pre))),
+)
 
 pub move-lane-spec : {M : Type 1} → statement M
 move-lane-spec =

@@ -64,7 +64,7 @@ loop-less : tie.Need-loop-less Inv-loop μ-loop
 loop-less c = omega arith
 
 loop-again : tie.Need-loop-again Inv-loop μ-loop
-loop-again c = 
+loop-again c =
     let m = c .before .before .before .before .before .before .move-lane in
     let n = c .before .before .move-lane2 in
     moving-next _ _ _ _ (c .before .before .before .before .before .before .before .before .before .before .before .before .loop .inv) (c .before .before .before .before .before .before .before .before .before .before .before .loop-test .taken) (m .last .0) _ (c .before .before .before .before .before .before .before .before .before .goes .result) _ _ (c .before .before .before .before .before .before .before .before .before .goes .ensures) (m .ensures .0) (m .ensures .1) (n .ensures .0) (n .ensures .1)

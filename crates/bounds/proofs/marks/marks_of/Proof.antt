@@ -91,7 +91,7 @@ loop-again c =
     (ap (ltZ greatest32) (sym (toZ-ofZ high)) ∙ b .1 .1)
 
 returns : tie.Need-returns Inv-loop μ-loop
-returns c = 
+returns c =
     let m = c .before .loop .inv in
     let h = c .loop-test .left in
     (marking-end _ _ _ _ m h, ((λ i l. m .tested .least i (omega arith)), λ i l. m .tested .greatest i (omega arith)))

@@ -78,16 +78,17 @@ same-length-2 : tie.Need-same-length-2
 same-length-2 c = search needs
 
 returns : tie.Need-returns
-returns c = 
+returns c =
     let n = c .before .before .before .before .before .before .before .evaluations-in .ensures in
-    let g = getD (c .before .before .before .before .before .before .before .before .before .before .args .states .now) (16 + c .before .before .before .before .before .before .before .before .before .before .args .i) 0 in
-    (ap₂ (λ (x y : ℕ). set (set (c .before .before .before .before .before .before .before .before .before .before .args .states .now) (c .before .before .before .before .before .before .before .before .before .before .args .i) x) (16 + c .before .before .before .before .before .before .before .before .before .before .args .i) y)
-    (c .before .before .before .least-missed .ensures ∙ ap (λ (k : ℕ). leastMissed (c .before .before .before .before .before .before .before .before .before .before .args .top) (c .before .before .before .before .before .before .before .before .before .before .args .row .recovers) k (getD (c .before .before .before .before .before .before .before .before .before .before .args .states .now) (c .before .before .before .before .before .before .before .before .before .before .args .i) 0)) n)
-    (c .before .before .greatest-missed .ensures ∙ ap (λ (k : ℕ). greatestMissed (c .before .before .before .before .before .before .before .before .before .before .args .top) k g) n),
-    ap (set (c .before .before .before .before .before .before .before .before .before .before .args .firsts .now) (16 + c .before .before .before .before .before .before .before .before .before .before .args .i))
-    (c .note .ensures
-    ∙ ap (λ (t : ℕ). noted t (getD (c .before .before .before .before .before .before .before .before .before .before .args .firsts .now) (16 + c .before .before .before .before .before .before .before .before .before .before .args .i) 0))
-    (c .before .top-tick .ensures ∙ ap (λ (k : ℕ). topTick (c .before .before .before .before .before .before .before .before .before .before .args .row) (c .before .before .before .before .before .before .before .before .before .before .args .top) (c .before .before .before .before .before .before .before .before .before .before .args .first) k g) n)))
+    let g = getD (c .before .before .before .before .before .before .before .before .before .before .args .states .now) (16 + c .before .before .before .before .before .before .before .before .before .before .args .i) 0 in (
+      ap₂ (λ (x y : ℕ). set (set (c .before .before .before .before .before .before .before .before .before .before .args .states .now) (c .before .before .before .before .before .before .before .before .before .before .args .i) x) (16 + c .before .before .before .before .before .before .before .before .before .before .args .i) y)
+          (c .before .before .before .least-missed .ensures ∙ ap (λ (k : ℕ). leastMissed (c .before .before .before .before .before .before .before .before .before .before .args .top) (c .before .before .before .before .before .before .before .before .before .before .args .row .recovers) k (getD (c .before .before .before .before .before .before .before .before .before .before .args .states .now) (c .before .before .before .before .before .before .before .before .before .before .args .i) 0)) n)
+          (c .before .before .greatest-missed .ensures ∙ ap (λ (k : ℕ). greatestMissed (c .before .before .before .before .before .before .before .before .before .before .args .top) k g) n),
+      ap (set (c .before .before .before .before .before .before .before .before .before .before .args .firsts .now) (16 + c .before .before .before .before .before .before .before .before .before .before .args .i))
+          (c .note .ensures
+          ∙ ap (λ (t : ℕ). noted t (getD (c .before .before .before .before .before .before .before .before .before .before .args .firsts .now) (16 + c .before .before .before .before .before .before .before .before .before .before .args .i) 0))
+          (c .before .top-tick .ensures ∙ ap (λ (k : ℕ). topTick (c .before .before .before .before .before .before .before .before .before .before .args .row) (c .before .before .before .before .before .before .before .before .before .before .args .top) (c .before .before .before .before .before .before .before .before .before .before .args .first) k g) n)),
+    )
 
 pub miss-rule-spec : {M : Type 1} → statement M
 miss-rule-spec =

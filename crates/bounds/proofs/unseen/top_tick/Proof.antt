@@ -20,7 +20,7 @@ tick-of-requires : tie.Need-tick-of-requires
 tick-of-requires c κs = search needs
 
 cast-result : tie.Need-cast-result
-cast-result c = 
+cast-result c =
     let e = c .before .before .before .pre in
     let h : c .before .before .before .args .top - c .before .before .before .args .s ≤ evaluations (c .before .before .before .args .row) (c .before .before .before .args .first) (suc (c .before .before .before .args .last)) = omega (arith, c .before .if2 .taken, e) in
     let some : 0 < c .before .before .before .args .top - c .before .before .before .args .s = omega (arith, c .before .before .if1 .taken) in
