@@ -2,33 +2,32 @@
 ghost use mathlib.Core.Path.{_≡_};
 ghost use Prim.Native.Nat.{_≤_};
 ghost use lib.ListN.{length};
-ghost use Rattle.states.specs.Readings.{allFlags};
+ghost use Rattle.bounds.specs.Steps.{flagsOfStates};
 ghost use Rattle.report.specs.Layout.{reported};
 ghost use Rattle.totals.specs.Totals.{unseenSum};
 ghost use Rattle.judge.specs.inner.Ending.{joined, summed};
 use report::AllFirstTicks;
 use report::FirstTicks;
 use report::Totals;
-use rules::Settings;
 
-fn join_firsts(possible: &[u32], held: &[u32]) -> AllFirstTicks
-    requires { ⌜ (length (now possible) ≡ 16) × (length (now held) ≡ 16) ⌝ }
-    ensures { λ r. ⌜ r .of ≡ joined (now (possible .entry)) (now (held .entry)) ⌝ }
+fn join_firsts(firsts: &[u32]) -> AllFirstTicks
+    requires { ⌜ length (now firsts) ≡ 32 ⌝ }
+    ensures { λ r. ⌜ r .of ≡ joined (now (firsts .entry)) ⌝ }
 {
     let none = FirstTicks {
         possible: 0,
         held: 0,
     };
-    let mut firsts = AllFirstTicks { of: [none; 16] };
+    let mut all = AllFirstTicks { of: [none; 16] };
     let mut i: usize = 0;
     while i < 16 {
-        firsts.of[i] = FirstTicks {
-            possible: possible[i],
-            held: held[i],
+        all.of[i] = FirstTicks {
+            possible: firsts[16 + i],
+            held: firsts[i],
         };
         i += 1;
     }
-    firsts
+    all
 }
 
 pub(crate) fn totals_of(holes: &[u8], samples: &[u8], cells: u8, ticks: u32) -> Totals
@@ -46,17 +45,16 @@ pub(crate) fn totals_of(holes: &[u8], samples: &[u8], cells: u8, ticks: u32) -> 
 }
 
 pub(crate) fn write_end(
-    words: &[u64],
-    possible: &[u32],
-    held: &[u32],
-    settings: Settings,
+    lanes: &[u16; 32],
+    states: &[u16],
+    firsts: &[u32],
     totals: Totals,
     report: &mut [u8],
 )
-    requires { ⌜ (length (now possible) ≡ 16) × (length (now held) ≡ 16) ⌝ }
-    ensures { λ _. ⌜ now (report .exit) ≡ reported (allFlags (settings .of) (now (words .entry))) (joined (now (possible .entry)) (now (held .entry))) totals (now (report .entry)) ⌝ }
+    requires { ⌜ length (now firsts) ≡ 32 ⌝ }
+    ensures { λ _. ⌜ now (report .exit) ≡ reported (flagsOfStates (now (lanes .entry)) (now (states .entry))) (joined (now (firsts .entry))) totals (now (report .entry)) ⌝ }
 {
-    let flags = states::flags_in(words, settings);
-    let firsts = join_firsts(possible, held);
-    report::write_report(report, flags, firsts, totals);
+    let flags = bounds::flags_in(lanes, states);
+    let ticks = join_firsts(firsts);
+    report::write_report(report, flags, ticks, totals);
 }

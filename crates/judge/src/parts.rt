@@ -31,25 +31,26 @@ fn judge_parts(
     ensures report { λ _. ⌜ now (report .exit) ≡ reportOf f (now (holes .entry)) (now (samples .entry)) (now (report .entry)) ⌝ }
     ensures verdicts { λ _. ⌜ now (verdicts .exit) ≡ map (verdictOn (configIn f) (shows (f .cells) (now (samples .entry)))) (repliesIn (now (replies .entry))) ⌝ }
 {
-    let begun = states::States::begin();
-    let mut words = begun.words;
-    let mut possible = [0xFFFFFFFFu32; 16];
-    let mut held = [0xFFFFFFFFu32; 16];
     let settings = f.settings;
-    let start = start_at(settings, &words);
+    let tests = bounds::tests_of(settings);
+    let lanes = bounds::lanes_of(settings);
+    let mut states = [0u16; 32];
+    let mut firsts = [0xFFFFFFFFu32; 32];
+    let start = start_at(&lanes, &states);
     judge_records(
         holes,
         samples,
         replies,
+        &tests,
+        &lanes,
         f,
         start,
-        &mut words,
-        &mut possible,
-        &mut held,
+        &mut states,
+        &mut firsts,
         verdicts,
     );
     let totals = totals_of(holes, samples, f.cells, f.ticks);
-    write_end(&words, &possible, &held, settings, totals, report);
+    write_end(&lanes, &states, &firsts, totals, report);
 }
 
 // Judges an accepted trace with its layout, each section as its own part of the trace.

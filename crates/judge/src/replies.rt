@@ -6,26 +6,25 @@ ghost use lib.ListN.{length};
 ghost use Rattle.refusals.specs.Refusals.{answer};
 ghost use Rattle.trace.specs.Records.{repliesIn};
 ghost use Rattle.trace.specs.Coverage.{repliesAnswer};
-ghost use Rattle.states.specs.Readings.{allFlags};
+ghost use Rattle.bounds.specs.Steps.{flagsOfStates};
 ghost use Rattle.verdicts.specs.Verdicts.{verdictOf};
 ghost use Rattle.demands.specs.Verdicts.{verdictOn};
 ghost use Rattle.walk.specs.Walk.{startOf};
 ghost use Rattle.walk.specs.inner.Places.{shows};
-ghost use Rattle.judge.specs.inner.Walk.{configIn, alarmsOf, AtPoint, Reached, Known};
+ghost use Rattle.judge.specs.inner.Walk.{configIn, Planned, alarmsOf, AtPoint, Reached, Known};
 use crate::advance::Frame;
 use crate::advance::Stop;
 use crate::advance::advance;
 use flags::Output;
-use rules::Settings;
 use verdicts::Alarms;
 use verdicts::Tick;
 use verdicts::Verdict;
 
-// The bits of BatteryStatus, from the possible states.
-fn alarms_in(words: &[u64], settings: Settings) -> Alarms
-    ensures { λ r. ⌜ r ≡ alarmsOf (allFlags (settings .of) (now (words .entry))) ⌝ }
+// The bits of BatteryStatus, from the least and greatest states.
+fn alarms_in(lanes: &[u16; 32], states: &[u16]) -> Alarms
+    ensures { λ r. ⌜ r ≡ alarmsOf (flagsOfStates (now (lanes .entry)) (now (states .entry))) ⌝ }
 {
-    let flags = states::flags_in(words, settings);
+    let flags = bounds::flags_in(lanes, states);
     Alarms {
         terminate_charge: flags::output_of(flags, Output::TerminateChargeAlarm),
         over_temp: flags::output_of(flags, Output::OverTempAlarm),
@@ -40,8 +39,8 @@ pub(crate) struct Point {
 }
 
 // Where the walk begins.
-pub(crate) fn start_at(settings: Settings, words: &[u64]) -> Point
-    ensures { λ r. ⌜ r ≡ record { stop = record { cursor = startOf; shown = Tick.Unseen }; alarms = alarmsOf (allFlags (settings .of) (now (words .entry))) } ⌝ }
+pub(crate) fn start_at(lanes: &[u16; 32], states: &[u16]) -> Point
+    ensures { λ r. ⌜ r ≡ record { stop = record { cursor = startOf; shown = Tick.Unseen }; alarms = alarmsOf (flagsOfStates (now (lanes .entry)) (now (states .entry))) } ⌝ }
 {
     let cursor = walk::start();
     Point {
@@ -49,7 +48,7 @@ pub(crate) fn start_at(settings: Settings, words: &[u64]) -> Point
             cursor,
             shown: Tick::Unseen,
         },
-        alarms: alarms_in(words, settings),
+        alarms: alarms_in(lanes, states),
     }
 }
 
@@ -57,26 +56,26 @@ pub(crate) fn start_at(settings: Settings, words: &[u64]) -> Point
 fn reach(
     holes: &[u8],
     samples: &[u8],
+    tests: &[i32; 32],
+    lanes: &[u16; 32],
     f: Frame,
     at: Point,
     to: u32,
-    words: &mut [u64],
-    possible: &mut [u32],
-    held: &mut [u32],
+    states: &mut [u16],
+    firsts: &mut [u32],
 ) -> Point
-    requires { ⌜ AtPoint f (now holes) (now samples) at (now words) (now possible) (now held) × (at .stop .cursor .tick ≤ to) × (to ≤ f .ticks) ⌝ }
-    ensures { λ r. ⌜ Reached f (now (holes .entry)) (now (samples .entry)) r to (now (words .exit)) (now (possible .exit)) (now (held .exit)) ⌝ }
+    requires { ⌜ Planned f (now tests) (now lanes) × AtPoint f (now holes) (now samples) at (now states) (now firsts) × (at .stop .cursor .tick ≤ to) × (to ≤ f .ticks) ⌝ }
+    ensures { λ r. ⌜ Reached f (now (holes .entry)) (now (samples .entry)) r to (now (states .exit)) (now (firsts .exit)) ⌝ }
 {
     let stop = at.stop;
     let c = stop.cursor;
     if to <= c.tick {
         return at;
     }
-    let settings = f.settings;
-    let stop = advance(holes, samples, f, stop, to, words, possible, held);
+    let stop = advance(holes, samples, tests, lanes, f, stop, to, states, firsts);
     Point {
         stop,
-        alarms: alarms_in(words, settings),
+        alarms: alarms_in(lanes, states),
     }
 }
 
@@ -101,15 +100,16 @@ pub(crate) fn judge_records(
     holes: &[u8],
     samples: &[u8],
     replies: &[u8],
+    tests: &[i32; 32],
+    lanes: &[u16; 32],
     f: Frame,
     start: Point,
-    words: &mut [u64],
-    possible: &mut [u32],
-    held: &mut [u32],
+    states: &mut [u16],
+    firsts: &mut [u32],
     verdicts: &mut [u8],
 )
-    requires { ⌜ AtPoint f (now holes) (now samples) start (now words) (now possible) (now held) × (start .stop .cursor .tick ≤ 1) × (repliesAnswer (f .ticks) (repliesIn (now replies)) 0 0 ≡ answer tt) × (length (now verdicts) ≡ length (now replies) / 10) × (length (now replies) ≤ 655350) ⌝ }
-    ensures known { λ _. ⌜ Known (configIn f) (now (samples .entry)) (f .ticks) (now (words .exit)) (now (possible .exit)) (now (held .exit)) ⌝ }
+    requires { ⌜ Planned f (now tests) (now lanes) × AtPoint f (now holes) (now samples) start (now states) (now firsts) × (start .stop .cursor .tick ≤ 1) × (repliesAnswer (f .ticks) (repliesIn (now replies)) 0 0 ≡ answer tt) × (length (now verdicts) ≡ length (now replies) / 10) × (length (now replies) ≤ 655350) ⌝ }
+    ensures known { λ _. ⌜ Known (configIn f) (now (samples .entry)) (f .ticks) (now (states .exit)) (now (firsts .exit)) ⌝ }
     ensures verdicts { λ _. ⌜ now (verdicts .exit) ≡ map (verdictOn (configIn f) (shows (f .cells) (now (samples .entry)))) (repliesIn (now (replies .entry))) ⌝ }
 {
     let mut x = start;
@@ -117,12 +117,12 @@ pub(crate) fn judge_records(
     while j < verdicts.len() {
         let at = j * 10;
         let to = bytes_le::u32_at(replies, at) + 1;
-        x = reach(holes, samples, f, x, to, words, possible, held);
+        x = reach(holes, samples, tests, lanes, f, x, to, states, firsts);
         let stop = x.stop;
         let shown = stop.shown;
         let alarms = x.alarms;
         verdicts[j] = verdict_on(shown, alarms, &replies[at + 4..at + 10]);
         j += 1;
     }
-    reach(holes, samples, f, x, f.ticks, words, possible, held);
+    reach(holes, samples, tests, lanes, f, x, f.ticks, states, firsts);
 }

@@ -1,5 +1,5 @@
 -- What the last steps of the judge start from and give.
-use Prim.Native.Nat.{ℕ, _/_, _≤_}
+use Prim.Native.Nat.{ℕ, _+_, _/_, _≤_}
 use mathlib.Core.Path.{_≡_}
 use mathlib.Core.List.{List}
 use lib.ListN.{getD, length}
@@ -20,8 +20,8 @@ use Rattle.judge.specs.declared.advance.Frame.{Frame}
 use Rattle.judge.specs.inner.Walk.{configIn, Ready}
 
 -- The first ticks of both kinds, by rule.
-unfoldable pub joined : List ℕ → List ℕ → List FirstTicks
-joined possible held = tabulate 16 (λ i. record { possible = getD possible i 0; held = getD held i 0 })
+unfoldable pub joined : List ℕ → List FirstTicks
+joined firsts = tabulate 16 (λ i. record { possible = getD firsts (16 + i) 0; held = getD firsts i 0 })
 
 -- The totals of the records in their parts.
 abbrev pub summed : ℕ → List ℕ → List ℕ → ℕ → Totals
