@@ -1,8 +1,8 @@
 -- The loops over all rules: the marks of a sample, and the states moved by them.
-use Prim.Native.Nat.{ℕ, _+_, _%_, _≤_, _<_}
+use Prim.Native.Nat.{ℕ, _+_, _*_, _%_, _≤_, _<_}
 use native.Mathlib.Omega.{arith}
 use mathlib.Core.Path.{_≡_, refl, ap, ap₂, sym, _∙_}
-use mathlib.Core.Bool.{Bool, true, false, cond, _&&_, _||_}
+use mathlib.Core.Bool.{Bool, true, false, cond, _||_}
 use mathlib.Core.List.{List}
 use lib.IntN.{ℤ, pos}
 use lib.Signed.{ltZ}
@@ -15,50 +15,44 @@ use Rattle.lists.proofs.Bools.{getD-tabulate}
 use Rattle.lists.proofs.Laying.{some-more}
 use Rattle.rules.specs.declared.Readings.{Readings}
 use Rattle.rules.specs.Table.{rowAt}
-use Rattle.rules.specs.Quantities.{qualified}
 use Rattle.rules.specs.Evaluation.{step}
 use Rattle.bounds.specs.Lanes.{paired}
-use Rattle.bounds.specs.Steps.{reading, tripsBy, clearsBy, seenBy, statesSeen}
+use Rattle.bounds.specs.Plan.{least32, greatest32, flowOf}
+use Rattle.bounds.specs.Steps.{reading, Within32, tripsBy, clearsBy, seenBy, statesSeen}
 use Rattle.bounds.specs.Firsts.{notedAt, rises, rulesRise, firstsSeen}
-use Rattle.bounds.specs.inner.Marks.{least32, greatest32, towards, back, mark, marksOf, movedBy, statesMoved}
+use Rattle.bounds.specs.inner.Marks.{valuesOf, mark, marksOf, movedBy, statesMoved}
 use Rattle.bounds.proofs.Paired.{paired-low, paired-high, paired-same}
 use Rattle.bounds.proofs.Pairing.{Pairing, pairing-start, pairing-next, pairing-end, high-kept, long-low}
 
--- No test is below the least number, and none above the greatest.
-pub record Tested (tests : List ℤ) (i : ℕ) : Type 0 where
-  pub least : (j : ℕ) → j < i → ltZ (getD tests j (pos 0)) least32 ≡ false
-  pub greatest : (j : ℕ) → j < i → ltZ greatest32 (getD tests (16 + j) (pos 0)) ≡ false
-
-abbrev pub upMark : List ℤ → List ℤ → ℕ → ℕ
-upMark tests up j = mark (ltZ (getD tests j (pos 0)) (getD up j (pos 0)))
+abbrev pub upMark : List ℤ → ℕ → List ℤ → ℕ → ℕ
+upMark values base tests j = mark (ltZ (getD tests (base + j) (pos 0)) (getD values j (pos 0)))
 
 abbrev pub downMark : List ℤ → List ℤ → ℕ → ℕ
-downMark tests down j = mark (ltZ (getD down j (pos 0)) (getD tests (16 + j) (pos 0)))
+downMark values tests j = mark (ltZ (getD values j (pos 0)) (getD tests (48 + j) (pos 0)))
 
--- The marks of the rules below i.
-pub record Marking (up down tests : List ℤ) (ms₀ ms : List ℕ) (i : ℕ) : Type 0 where
-  pub pairing : Pairing 0 (upMark tests up) (downMark tests down) ms₀ ms i
-  pub tested : Tested tests i
+-- The marks of the rules below i. None of the numbers is below the least, or above the greatest.
+pub record Marking (values : List ℤ) (base : ℕ) (tests : List ℤ) (ms₀ ms : List ℕ) (i : ℕ) : Type 0 where
+  pub pairing : Pairing 0 (upMark values base tests) (downMark values tests) ms₀ ms i
+  pub least : (j : ℕ) → j < i → ltZ (getD values j (pos 0)) least32 ≡ false
+  pub greatest : (j : ℕ) → j < i → ltZ greatest32 (getD values j (pos 0)) ≡ false
 
-module _ (up down tests : List ℤ) (ms₀ : List ℕ) where
-  pub marking-start : length ms₀ ≡ 32 → Marking up down tests ms₀ ms₀ 0
+module _ (values : List ℤ) (base : ℕ) (tests : List ℤ) (ms₀ : List ℕ) where
+  pub marking-start : length ms₀ ≡ 32 → Marking values base tests ms₀ ms₀ 0
   marking-start l =
-      record {
-        pairing = pairing-start 0 _ _ ms₀ l;
-        tested = record { least = λ j h. absurd (omega arith); greatest = λ j h. absurd (omega arith) };
-      }
+      record { pairing = pairing-start 0 _ _ ms₀ l; least = λ j h. absurd (omega arith); greatest = λ j h. absurd (omega arith) }
 
-  pub marking-next : {ms : List ℕ} {i : ℕ} (a b : ℕ) → Marking up down tests ms₀ ms i → i < 16
-      → a ≡ mark (ltZ (getD tests i (pos 0)) (getD up i (pos 0))) → ltZ (getD tests i (pos 0)) least32 ≡ false
-      → b ≡ mark (ltZ (getD down i (pos 0)) (getD tests (16 + i) (pos 0))) → ltZ greatest32 (getD tests (16 + i) (pos 0)) ≡ false
-      → Marking up down tests ms₀ (set (set ms i a) (16 + i) b) (i + 1)
-  marking-next {i = i} a b m h e l e′ g =
+  pub marking-next : {ms : List ℕ} {i : ℕ} (a b : ℕ) → Marking values base tests ms₀ ms i → i < 16
+      → a ≡ upMark values base tests i → ltZ greatest32 (getD values i (pos 0)) ≡ false
+      → b ≡ downMark values tests i → ltZ (getD values i (pos 0)) least32 ≡ false
+      → Marking values base tests ms₀ (set (set ms i a) (16 + i) b) (i + 1)
+  marking-next {i = i} a b m h e g e′ l =
       record {
         pairing = pairing-next 0 _ _ ms₀ (m .pairing) h a b e e′;
-        tested = record { least = below-more _ i (m .tested .least) l; greatest = below-more _ i (m .tested .greatest) g };
+        least = below-more _ i (m .least) l;
+        greatest = below-more _ i (m .greatest) g;
       }
 
-  pub marking-end : {ms : List ℕ} {i : ℕ} → Marking up down tests ms₀ ms i → 16 ≤ i → ms ≡ marksOf up down tests
+  pub marking-end : {ms : List ℕ} {i : ℕ} → Marking values base tests ms₀ ms i → 16 ≤ i → ms ≡ marksOf values base tests
   unfolding marksOf
   marking-end m h = pairing-end 0 _ _ ms₀ (m .pairing) h
 
@@ -116,49 +110,47 @@ module _ (marks lanes : List ℕ) (even : Bool) (xs₀ : List ℕ) where
       let k : i ≡ 16 = let w = m .pairing .within in omega arith in
       (e, m .rising ∙ ap₂ (λ (n : ℕ) (l : List ℕ). someBelow n (rulesRise lanes xs₀ l)) k (sym e))
 
--- A mark of a number that counts only if a test holds.
-counted : (b : Bool) (limit v : ℤ) → ltZ limit least32 ≡ false → ltZ limit (cond b v least32) ≡ (b && ltZ limit v)
-counted true limit v e = refl
-counted false limit v e = e
-
-counted-back : (b : Bool) (v limit : ℤ) → ltZ greatest32 limit ≡ false → ltZ (cond b v greatest32) limit ≡ (b && ltZ v limit)
-counted-back true v limit e = refl
-counted-back false v limit e = e
-
 marked : (b : Bool) → ltb 0 (mark b) ≡ b
 marked true = refl
 marked false = refl
 
 -- By the marks of a sample the states are those after a seen tick.
-pub states-seen : (tests : List ℤ) (lanes : List ℕ) (idle tick : ℕ) (r : Readings) (even : Bool) (xs marks : List ℕ) (up down : List ℤ) → Tested tests 16
-    → up ≡ towards idle r → down ≡ back r → marks ≡ marksOf up down tests → even ≡ eqb (tick % 2) 0
+pub states-seen : (tests : List ℤ) (lanes : List ℕ) (idle tick : ℕ) (r : Readings) (even : Bool) (xs marks : List ℕ) (values : List ℤ) (base : ℕ)
+    → values ≡ valuesOf r → base ≡ 16 * flowOf idle r → marks ≡ marksOf values base tests → even ≡ eqb (tick % 2) 0
     → statesMoved marks lanes even xs ≡ statesSeen tests lanes idle tick r xs
-unfolding statesMoved statesSeen marksOf towards back
-states-seen tests lanes idle tick r even xs marks up down t eu ed em ee =
+unfolding statesMoved statesSeen marksOf valuesOf
+states-seen tests lanes idle tick r even xs marks values base ev eb em ee =
     paired-same _ _ _ _ (λ i h. same i h (getD xs i 0)) (λ i h. same i h (getD xs (16 + i) 0))
   where
+    read : (i : ℕ) → i < 16 → getD values i (pos 0) ≡ reading (rowAt i) r
+    read i h = ap (λ (l : List ℤ). getD l i (pos 0)) ev ∙ getD-tabulate 16 (λ j. reading (rowAt j) r) (pos 0) i h
+
     trips : (i : ℕ) → i < 16 → ltb 0 (getD marks i 0) ≡ tripsBy tests idle r i
     trips i h =
         ap (λ (l : List ℕ). ltb 0 (getD l i 0)) em
-        ∙ ap (ltb 0) (paired-low (upMark tests up) (downMark tests down) 0 i h)
-        ∙ marked (ltZ (getD tests i (pos 0)) (getD up i (pos 0)))
-        ∙ ap (λ (l : List ℤ). ltZ (getD tests i (pos 0)) (getD l i (pos 0))) eu
-        ∙ ap (ltZ (getD tests i (pos 0))) (getD-tabulate 16 (λ j. cond (qualified idle (rowAt j .quantity) r) (reading (rowAt j) r) least32) (pos 0) i h)
-        ∙ counted (qualified idle (rowAt i .quantity) r) (getD tests i (pos 0)) (reading (rowAt i) r) (t .least i h)
+        ∙ ap (ltb 0) (paired-low (upMark values base tests) (downMark values tests) 0 i h)
+        ∙ marked (ltZ (getD tests (base + i) (pos 0)) (getD values i (pos 0)))
+        ∙ ap₂ (λ (b : ℕ) (z : ℤ). ltZ (getD tests (b + i) (pos 0)) z) eb (read i h)
 
     clears : (i : ℕ) → i < 16 → ltb 0 (getD marks (16 + i) 0) ≡ clearsBy tests r i
     clears i h =
         ap (λ (l : List ℕ). ltb 0 (getD l (16 + i) 0)) em
-        ∙ ap (ltb 0) (paired-high (upMark tests up) (downMark tests down) 0 i h)
-        ∙ marked (ltZ (getD down i (pos 0)) (getD tests (16 + i) (pos 0)))
-        ∙ ap (λ (l : List ℤ). ltZ (getD l i (pos 0)) (getD tests (16 + i) (pos 0))) ed
-        ∙ ap (λ (z : ℤ). ltZ z (getD tests (16 + i) (pos 0))) (getD-tabulate 16 (λ j. cond (rowAt j .recovers) (reading (rowAt j) r) greatest32) (pos 0) i h)
-        ∙ counted-back (rowAt i .recovers) (reading (rowAt i) r) (getD tests (16 + i) (pos 0)) (t .greatest i h)
+        ∙ ap (ltb 0) (paired-high (upMark values base tests) (downMark values tests) 0 i h)
+        ∙ marked (ltZ (getD values i (pos 0)) (getD tests (48 + i) (pos 0)))
+        ∙ ap (λ (z : ℤ). ltZ z (getD tests (48 + i) (pos 0))) (read i h)
 
     same : (i : ℕ) → i < 16 → (s : ℕ) → movedBy marks lanes even i s ≡ seenBy tests lanes idle tick r i s
     same i h s =
         ap₂ (λ (b c : Bool). cond (ltb 0 (getD lanes (16 + i) 0) || even) (step (getD lanes i 0) b c s) s) (trips i h) (clears i h)
         ∙ ap (λ (b : Bool). cond (ltb 0 (getD lanes (16 + i) 0) || b) (step (getD lanes i 0) (tripsBy tests idle r i) (clearsBy tests r i) s) s) ee
+
+-- What each rule reads is a number of 32 bits.
+pub within-32 : (r : Readings) (values : List ℤ) → values ≡ valuesOf r
+    → ((i : ℕ) → i < 16 → ltZ (getD values i (pos 0)) least32 ≡ false) → ((i : ℕ) → i < 16 → ltZ greatest32 (getD values i (pos 0)) ≡ false) → Within32 r
+unfolding valuesOf
+within-32 r values e low high i h =
+    let read : getD values i (pos 0) ≡ reading (rowAt i) r = ap (λ (l : List ℤ). getD l i (pos 0)) e ∙ getD-tabulate 16 (λ j. reading (rowAt j) r) (pos 0) i h in
+    (ap (λ (z : ℤ). ltZ z least32) (sym read) ∙ low i h, ap (ltZ greatest32) (sym read) ∙ high i h)
 
 -- The first ticks after a seen tick, by whether a state has come to its top.
 module _ (lanes : List ℕ) (tick : ℕ) (ss ss′ fs : List ℕ) {any : Bool} (e : any ≡ someBelow 16 (rulesRise lanes ss ss′)) where

@@ -1,7 +1,6 @@
 -- What the rules read of a sample, rule by rule.
-use Prim.Native.Nat.{ℕ, _-_}
-use mathlib.Core.Path.{_≡_, refl, ap, _∙_}
-use mathlib.Core.Bool.{cond}
+use Prim.Native.Nat.{_-_}
+use mathlib.Core.Path.{_≡_, refl, _∙_}
 use mathlib.Core.List.{List, [], _∷_}
 use lib.IntN.{ℤ, pos}
 use mir.Syntax.{Width}
@@ -9,25 +8,18 @@ use mir.Val.{toZ, ofZ, SFits}
 use mir.Facts.{toZ-ofZ}
 use Rattle.rules.specs.declared.Readings.{Readings}
 use Rattle.rules.specs.declared.Side.the-variants.{Low}
-use Rattle.rules.specs.Quantities.{value, qualified, charging, discharging}
+use Rattle.rules.specs.Quantities.{value}
 use Rattle.bounds.specs.Plan.{along}
-use Rattle.bounds.specs.inner.Marks.{least32, greatest32, towards, back}
+use Rattle.bounds.specs.inner.Marks.{valuesOf}
 
 -- A signed number that a call gave.
 pub told : {w : Width} {z u : ℤ} → SFits w z → z ≡ u → toZ w (ofZ w z) ≡ u
 told f e = toZ-ofZ f ∙ e
 
-module _ (r : Readings) {high low sum less current drawn board : ℤ}
-    (h : high ≡ pos (r .«highest_cell»)) (l : low ≡ along Low (pos (r .«lowest_cell»))) (s : sum ≡ pos (r .«sum_of_cells»)) (s′ : less ≡ along Low (pos (r .«sum_of_cells»)))
-    (c : current ≡ r .current) (c′ : drawn ≡ along Low (r .current)) (b : board ≡ r .board) where
-  pub towards-are : (idle : ℕ) {charged discharged cold apart : ℤ}
-      → charged ≡ cond (charging idle r) (r .«highest_temp») least32 → discharged ≡ cond (discharging idle r) (r .«highest_temp») least32
-      → cold ≡ cond (discharging idle r) (along Low (r .«lowest_temp»)) least32 → apart ≡ pos (r .«highest_cell» - r .«lowest_cell»)
-      → (high ∷ low ∷ sum ∷ less ∷ current ∷ drawn ∷ charged ∷ discharged ∷ board ∷ cold ∷ high ∷ current ∷ drawn ∷ charged ∷ discharged ∷ apart ∷ []) ≡ towards idle r
-  unfolding towards value qualified
-  towards-are idle tc td lt d = rw (h, l, s, s′, c, c′, b, tc, td, lt, d) refl
-
-  pub back-are : {warm cold : ℤ} → warm ≡ r .«highest_temp» → cold ≡ along Low (r .«lowest_temp»)
-      → (high ∷ low ∷ sum ∷ less ∷ current ∷ drawn ∷ warm ∷ warm ∷ board ∷ cold ∷ greatest32 ∷ greatest32 ∷ greatest32 ∷ greatest32 ∷ greatest32 ∷ greatest32 ∷ []) ≡ back r
-  unfolding back value
-  back-are t lt = rw (h, l, s, s′, c, c′, b, t, lt) refl
+pub values-are : (r : Readings) {high low sum less current drawn warm board cold apart : ℤ}
+    → high ≡ pos (r .«highest_cell») → low ≡ along Low (pos (r .«lowest_cell»)) → sum ≡ pos (r .«sum_of_cells») → less ≡ along Low (pos (r .«sum_of_cells»))
+    → current ≡ r .current → drawn ≡ along Low (r .current) → warm ≡ r .«highest_temp» → board ≡ r .board → cold ≡ along Low (r .«lowest_temp»)
+    → apart ≡ pos (r .«highest_cell» - r .«lowest_cell»)
+    → (high ∷ low ∷ sum ∷ less ∷ current ∷ drawn ∷ warm ∷ warm ∷ board ∷ cold ∷ high ∷ current ∷ drawn ∷ warm ∷ warm ∷ apart ∷ []) ≡ valuesOf r
+unfolding valuesOf value
+values-are r h l s s′ c c′ t b lt d = rw (h, l, s, s′, c, c′, t, b, lt, d) refl

@@ -1,5 +1,6 @@
 -- What a seen tick and a run of unseen ticks do to the least states of the sixteen rules, and to the greatest, which follow them.
-use Prim.Native.Nat.{ℕ, suc, _+_, _%_, min}
+use Prim.Native.Nat.{ℕ, suc, _+_, _*_, _%_, _<_, min}
+use mathlib.Core.Path.{_≡_}
 use mathlib.Core.Bool.{Bool, false, cond, _&&_, _||_}
 use mathlib.Core.List.{List}
 use lib.IntN.{ℤ, pos}
@@ -10,13 +11,13 @@ use Rattle.lists.specs.Lists.{tabulate}
 use Rattle.rules.specs.declared.Readings.{Readings}
 use Rattle.rules.specs.declared.Row.{Row}
 use Rattle.rules.specs.Table.{rowAt}
-use Rattle.rules.specs.Quantities.{value, qualified}
+use Rattle.rules.specs.Quantities.{value}
 use Rattle.rules.specs.Evaluation.{step, evaluations}
 use Rattle.flags.specs.declared.Flag.the-variants.{Unknown}
 use Rattle.flags.specs.declared.RuleFlags.{RuleFlags}
 use Rattle.fillings.specs.Bounds.{flagsBetween}
 use Rattle.bounds.specs.Lanes.{paired}
-use Rattle.bounds.specs.Plan.{along}
+use Rattle.bounds.specs.Plan.{along, least32, greatest32, flowOf}
 
 -- Thirty-two states, and as many first ticks.
 abbrev pub sized : List ℕ → List ℕ → Bool
@@ -30,13 +31,17 @@ readable r ss fs = leb (r .«sum_of_cells») 2147483647 && sized ss fs
 abbrev pub reading : Row → Readings → ℤ
 reading row r = along (row .side) (value (row .quantity) r)
 
+-- What every rule reads is a number of 32 bits.
+abbrev pub Within32 : Readings → Type 0
+Within32 r = (i : ℕ) → i < 16 → (ltZ (reading (rowAt i) r) least32 ≡ false) × (ltZ greatest32 (reading (rowAt i) r) ≡ false)
+
 -- Whether a sample meets the threshold of rule i among these tests.
 abbrev pub tripsBy : List ℤ → ℕ → Readings → ℕ → Bool
-tripsBy tests idle r i = qualified idle (rowAt i .quantity) r && ltZ (getD tests i (pos 0)) (reading (rowAt i) r)
+tripsBy tests idle r i = ltZ (getD tests (16 * flowOf idle r + i) (pos 0)) (reading (rowAt i) r)
 
 -- Whether it meets the recovery.
 abbrev pub clearsBy : List ℤ → Readings → ℕ → Bool
-clearsBy tests r i = rowAt i .recovers && ltZ (reading (rowAt i) r) (getD tests (16 + i) (pos 0))
+clearsBy tests r i = ltZ (reading (rowAt i) r) (getD tests (48 + i) (pos 0))
 
 -- A state of rule i after a seen tick.
 abbrev pub seenBy : List ℤ → List ℕ → ℕ → ℕ → Readings → ℕ → ℕ → ℕ

@@ -16,7 +16,7 @@ pub(crate) fn note(found: u32, first: u32) -> u32
 }
 
 // Notes the tick of a lane whose state is at the top.
-fn note_lane(firsts: &mut [u32], j: usize, tick: u32, top: u16, s: u16)
+fn note_lane(firsts: &mut [u32], j: usize, tick: u32, top: u8, s: u8)
     requires { ⌜ j < length (now firsts) ⌝ }
     ensures { λ _. ⌜ now (firsts .exit) ≡ set (now (firsts .entry)) j (notedAt top tick s (getD (now (firsts .entry)) j 0)) ⌝ }
 {
@@ -27,7 +27,7 @@ fn note_lane(firsts: &mut [u32], j: usize, tick: u32, top: u16, s: u16)
 }
 
 // Notes the tick of every state that is at the top.
-pub(crate) fn note_states(lanes: &[u16; 32], tick: u32, states: &[u16], firsts: &mut [u32])
+pub(crate) fn note_states(lanes: &[u8; 32], tick: u32, states: &[u8], firsts: &mut [u32])
     requires { ⌜ (length (now states) ≡ 32) × (length (now firsts) ≡ 32) ⌝ }
     ensures { λ _. ⌜ now (firsts .exit) ≡ paired (λ i. notedAt (getD (now (lanes .entry)) i 0) tick (getD (now (states .entry)) i 0) (getD (now (firsts .entry)) i 0)) (λ i. notedAt (getD (now (lanes .entry)) i 0) tick (getD (now (states .entry)) (16 + i) 0) (getD (now (firsts .entry)) (16 + i) 0)) ⌝ }
 {

@@ -1,14 +1,16 @@
 // The least and the greatest possible state of the sixteen rules, and the first ticks of the report, which follow from them
-// (paper 01, 'Three-way outputs'). Of each rule two lanes of 16 bits are kept: the loops over all rules have no branch.
+// (paper 01, 'Three-way outputs'). Of each rule two lanes of 8 bits are kept: the loops over all rules have no branch.
 ghost use mathlib.Core.Path.{_≡_};
 ghost use mathlib.Core.Bool.{cond};
+ghost use lib.Dec.{T};
 ghost use Rattle.bounds.specs.Plan.{testsOf, lanesOf};
-ghost use Rattle.bounds.specs.Steps.{sized, readable, statesSeen, statesMissed, flagsOfStates};
+ghost use Rattle.bounds.specs.Steps.{sized, readable, Within32, statesSeen, statesMissed, flagsOfStates};
 ghost use Rattle.bounds.specs.Firsts.{firstsSeen, firstsMissed};
 
 mod firsts;
 mod lanes;
 mod marks;
+mod plan;
 mod reading;
 mod unseen;
 
@@ -18,38 +20,38 @@ use flags::Flags;
 use flags::RuleFlags;
 use lanes::move_states;
 use marks::marks_of;
-use reading::number_along;
+use plan::test_at;
+use reading::flow_of;
 use reading::rule_flags;
-use reading::towards_recoveries;
-use reading::towards_thresholds;
+use reading::values_of;
 use rules::Readings;
 use rules::Settings;
 use unseen::miss_rule;
 
-// The thresholds of the rules, then their recoveries, each as the side of its rule reads it.
-pub fn tests_of(settings: Settings) -> [i32; 32]
+// The tests of the rules in four groups: the thresholds while no current flows, while it flows in and while it flows out, and the
+// recoveries, each number as the side of its rule reads it.
+pub fn tests_of(settings: Settings) -> [i32; 64]
     ensures { λ r. ⌜ r ≡ testsOf (settings .of) ⌝ }
 {
     let table = rules::all_rows();
-    let mut tests: [i32; 32] = [0; 32];
-    let mut i: usize = 0;
-    while i < 16 {
+    let mut tests: [i32; 64] = [0; 64];
+    let mut j: usize = 0;
+    while j < 64 {
+        let i = j % 16;
         let setting = settings.of[i];
         let row = table.of[i];
-        let side = row.side;
-        tests[i] = number_along(side, setting.threshold);
-        tests[16 + i] = number_along(side, setting.recovery);
-        i += 1;
+        tests[j] = test_at(j / 16, row, setting);
+        j += 1;
     }
     tests
 }
 
 // The top states of the rules, then 1 for each that is evaluated at every tick.
-pub fn lanes_of(settings: Settings) -> [u16; 32]
+pub fn lanes_of(settings: Settings) -> [u8; 32]
     ensures { λ r. ⌜ r ≡ lanesOf (settings .of) ⌝ }
 {
     let table = rules::all_rows();
-    let mut lanes: [u16; 32] = [0; 32];
+    let mut lanes: [u8; 32] = [0; 32];
     let mut i: usize = 0;
     while i < 16 {
         let setting = settings.of[i];
@@ -64,16 +66,17 @@ pub fn lanes_of(settings: Settings) -> [u16; 32]
 // Moves the states by a seen tick, where they stand, and notes the first ticks. Lists of other lengths stay as they are, and so
 // do all where the readings have a sum that no pack has.
 pub fn see(
-    tests: &[i32; 32],
-    lanes: &[u16; 32],
+    tests: &[i32; 64],
+    lanes: &[u8; 32],
     idle: u16,
     tick: u32,
     r: Readings,
-    states: &mut [u16],
+    states: &mut [u8],
     firsts: &mut [u32],
 )
     ensures states { λ _. ⌜ now (states .exit) ≡ cond (readable r (now (states .entry)) (now (firsts .entry))) (statesSeen (now (tests .entry)) (now (lanes .entry)) idle tick r (now (states .entry))) (now (states .entry)) ⌝ }
     ensures firsts { λ _. ⌜ now (firsts .exit) ≡ cond (readable r (now (states .entry)) (now (firsts .entry))) (firstsSeen (now (lanes .entry)) tick (now (states .entry)) (now (states .exit)) (now (firsts .entry))) (now (firsts .entry)) ⌝ }
+    ensures within { λ _. ⌜ (T (readable r (now (states .entry)) (now (firsts .entry))) → Within32 r) ⌝ }
 {
     if 2147483647 < r.sum_of_cells {
         return;
@@ -84,9 +87,9 @@ pub fn see(
     if firsts.len() != 32 {
         return;
     }
-    let up = towards_thresholds(idle, r);
-    let down = towards_recoveries(r);
-    let marks = marks_of(up, down, tests);
+    let values = values_of(r);
+    let base = 16 * flow_of(idle, r);
+    let marks = marks_of(values, base, tests);
     if move_states(marks, lanes, tick % 2 == 0, states) {
         note_states(lanes, tick, states, firsts);
     }
@@ -94,7 +97,7 @@ pub fn see(
 
 // Moves the states by the unseen ticks from first to last, where they stand, and notes the first ticks. Lists of other lengths
 // stay as they are.
-pub fn miss(lanes: &[u16; 32], first: u32, last: u32, states: &mut [u16], firsts: &mut [u32])
+pub fn miss(lanes: &[u8; 32], first: u32, last: u32, states: &mut [u8], firsts: &mut [u32])
     ensures states { λ _. ⌜ now (states .exit) ≡ cond (sized (now (states .entry)) (now (firsts .entry))) (statesMissed (now (lanes .entry)) first last (now (states .entry))) (now (states .entry)) ⌝ }
     ensures firsts { λ _. ⌜ now (firsts .exit) ≡ cond (sized (now (states .entry)) (now (firsts .entry))) (firstsMissed (now (lanes .entry)) first last (now (states .entry)) (now (firsts .entry))) (now (firsts .entry)) ⌝ }
 {
@@ -115,7 +118,7 @@ pub fn miss(lanes: &[u16; 32], first: u32, last: u32, states: &mut [u16], firsts
 }
 
 // The alert and the status of every rule.
-pub fn flags_in(lanes: &[u16; 32], states: &[u16]) -> Flags
+pub fn flags_in(lanes: &[u8; 32], states: &[u8]) -> Flags
     ensures { λ r. ⌜ r .of ≡ flagsOfStates (now (lanes .entry)) (now (states .entry)) ⌝ }
 {
     let unknown = RuleFlags {

@@ -11,7 +11,7 @@ use crate::firsts::note;
 use rules::Row;
 
 // A least state after n unseen evaluations.
-fn least_missed(top: u16, recovers: bool, n: u64, s: u16) -> u16
+fn least_missed(top: u8, recovers: bool, n: u64, s: u8) -> u8
     ensures { λ r. ⌜ r ≡ leastMissed top recovers n s ⌝ }
 {
     if n == 0 {
@@ -27,7 +27,7 @@ fn least_missed(top: u16, recovers: bool, n: u64, s: u16) -> u16
 }
 
 // A greatest state after n unseen evaluations.
-fn greatest_missed(top: u16, n: u64, s: u16) -> u16
+fn greatest_missed(top: u8, n: u64, s: u8) -> u8
     ensures { λ r. ⌜ r ≡ greatestMissed top n s ⌝ }
 {
     if n == 0 {
@@ -35,14 +35,14 @@ fn greatest_missed(top: u16, n: u64, s: u16) -> u16
     }
     if s < top {
         if n < (top - s) as u64 {
-            return s + n as u16;
+            return s + n as u8;
         }
     }
     top
 }
 
 // The tick of evaluation j from tick first on.
-fn tick_of(row: Row, first: u32, j: u16) -> u64
+fn tick_of(row: Row, first: u32, j: u8) -> u64
     requires { ⌜ 0 < j ⌝ }
     ensures { λ t. ⌜ t ≡ tickOf row first j ⌝ }
 {
@@ -55,7 +55,7 @@ fn tick_of(row: Row, first: u32, j: u16) -> u64
 }
 
 // The tick at which n unseen evaluations from first to last bring a greatest state to the top, or none: one subtraction.
-fn top_tick(row: Row, top: u16, first: u32, last: u32, n: u64, s: u16) -> u32
+fn top_tick(row: Row, top: u8, first: u32, last: u32, n: u64, s: u8) -> u32
     requires { ⌜ n ≡ evaluations row first (suc last) ⌝ }
     ensures { λ r. ⌜ r ≡ topTick row top first n s ⌝ }
 {
@@ -72,10 +72,10 @@ fn top_tick(row: Row, top: u16, first: u32, last: u32, n: u64, s: u16) -> u32
 pub(crate) fn miss_rule(
     row: Row,
     i: usize,
-    top: u16,
+    top: u8,
     first: u32,
     last: u32,
-    states: &mut [u16],
+    states: &mut [u8],
     firsts: &mut [u32],
 )
     requires { ⌜ (i < 16) × (length (now states) ≡ 32) × (length (now firsts) ≡ 32) ⌝ }

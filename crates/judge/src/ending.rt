@@ -45,8 +45,8 @@ pub(crate) fn totals_of(holes: &[u8], samples: &[u8], cells: u8, ticks: u32) -> 
 }
 
 pub(crate) fn write_end(
-    lanes: &[u16; 32],
-    states: &[u16],
+    lanes: &[u8; 32],
+    states: &[u8],
     firsts: &[u32],
     totals: Totals,
     report: &mut [u8],

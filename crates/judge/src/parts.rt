@@ -34,7 +34,7 @@ fn judge_parts(
     let settings = f.settings;
     let tests = bounds::tests_of(settings);
     let lanes = bounds::lanes_of(settings);
-    let mut states = [0u16; 32];
+    let mut states = [0u8; 32];
     let mut firsts = [0xFFFFFFFFu32; 32];
     let start = start_at(&lanes, &states);
     judge_records(

@@ -21,7 +21,7 @@ use verdicts::Tick;
 use verdicts::Verdict;
 
 // The bits of BatteryStatus, from the least and greatest states.
-fn alarms_in(lanes: &[u16; 32], states: &[u16]) -> Alarms
+fn alarms_in(lanes: &[u8; 32], states: &[u8]) -> Alarms
     ensures { λ r. ⌜ r ≡ alarmsOf (flagsOfStates (now (lanes .entry)) (now (states .entry))) ⌝ }
 {
     let flags = bounds::flags_in(lanes, states);
@@ -39,7 +39,7 @@ pub(crate) struct Point {
 }
 
 // Where the walk begins.
-pub(crate) fn start_at(lanes: &[u16; 32], states: &[u16]) -> Point
+pub(crate) fn start_at(lanes: &[u8; 32], states: &[u8]) -> Point
     ensures { λ r. ⌜ r ≡ record { stop = record { cursor = startOf; shown = Tick.Unseen }; alarms = alarmsOf (flagsOfStates (now (lanes .entry)) (now (states .entry))) } ⌝ }
 {
     let cursor = walk::start();
@@ -56,12 +56,12 @@ pub(crate) fn start_at(lanes: &[u16; 32], states: &[u16]) -> Point
 fn reach(
     holes: &[u8],
     samples: &[u8],
-    tests: &[i32; 32],
-    lanes: &[u16; 32],
+    tests: &[i32; 64],
+    lanes: &[u8; 32],
     f: Frame,
     at: Point,
     to: u32,
-    states: &mut [u16],
+    states: &mut [u8],
     firsts: &mut [u32],
 ) -> Point
     requires { ⌜ Planned f (now tests) (now lanes) × AtPoint f (now holes) (now samples) at (now states) (now firsts) × (at .stop .cursor .tick ≤ to) × (to ≤ f .ticks) ⌝ }
@@ -100,11 +100,11 @@ pub(crate) fn judge_records(
     holes: &[u8],
     samples: &[u8],
     replies: &[u8],
-    tests: &[i32; 32],
-    lanes: &[u16; 32],
+    tests: &[i32; 64],
+    lanes: &[u8; 32],
     f: Frame,
     start: Point,
-    states: &mut [u16],
+    states: &mut [u8],
     firsts: &mut [u32],
     verdicts: &mut [u8],
 )

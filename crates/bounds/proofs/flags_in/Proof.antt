@@ -4,9 +4,9 @@ use borrow.Author.Tests.{eq-eqb, ne-eqb}
 use Prim.Native.Nat.{_-_}
 use borrow.Author.Needs.{needs}
 use native.Mathlib.Omega.{arith}
-use Rattle.flags.specs.declared.Flag.the-variants.{Unknown}
 use Rattle.lists.proofs.Laying.{Laying, laying-start, laying-next, laying-end}
 use Rattle.fillings.specs.Bounds.{flagsBetween}
+use Rattle.flags.specs.declared.Flag.the-variants.{Unknown}
 use Rattle.rules.specs.Table.{rowAt}
 use lib.ListN.{getD}
 use Prim.Native.Nat.{_+_, _-_}
@@ -26,14 +26,8 @@ returns c = rw (ne-eqb _ _ (c .if1 .taken)) refl
 loop-holds : tie.Need-loop-holds Inv-loop μ-loop
 loop-holds c = laying-start _ 16 _ _ refl
 
-mul-top : tie.Need-mul-top Inv-loop μ-loop
-mul-top c = omega arith
-
 element-copy-out-top : tie.Need-element-copy-out-top Inv-loop μ-loop
 element-copy-out-top c = omega arith
-
-mul-least : tie.Need-mul-least Inv-loop μ-loop
-mul-least c = omega arith
 
 shared-slice-read-least : tie.Need-shared-slice-read-least Inv-loop μ-loop
 shared-slice-read-least c = omega (arith, c .before .before .before .before .if1 .left)
@@ -41,17 +35,14 @@ shared-slice-read-least c = omega (arith, c .before .before .before .before .if1
 add-greatest : tie.Need-add-greatest Inv-loop μ-loop
 add-greatest c = omega arith
 
-mul-greatest : tie.Need-mul-greatest Inv-loop μ-loop
-mul-greatest c = omega arith
-
 shared-slice-read-greatest : tie.Need-shared-slice-read-greatest Inv-loop μ-loop
 shared-slice-read-greatest c = omega (arith, c .before .before .before .before .before .if1 .left)
 
 rule-flags-requires : tie.Need-rule-flags-requires Inv-loop μ-loop
 rule-flags-requires c κs = search needs
 
-mul-t15 : tie.Need-mul-t15 Inv-loop μ-loop
-mul-t15 c = omega arith
+mul-t19 : tie.Need-mul-t19 Inv-loop μ-loop
+mul-t19 c = omega arith
 
 element-set-from-flags : tie.Need-element-set-from-flags Inv-loop μ-loop
 element-set-from-flags c = omega arith
@@ -77,15 +68,12 @@ flags-in-spec =
     μ-loop
     returns
     loop-holds
-    mul-top
     element-copy-out-top
-    mul-least
     shared-slice-read-least
     add-greatest
-    mul-greatest
     shared-slice-read-greatest
     rule-flags-requires
-    mul-t15
+    mul-t19
     element-set-from-flags
     add-i
     loop-less

@@ -40,9 +40,6 @@ element-copy-out-row c = omega arith
 top-lane-requires : tie.Need-top-lane-requires Inv-loop μ-loop
 top-lane-requires c κs = search needs
 
-mul-lanes : tie.Need-mul-lanes Inv-loop μ-loop
-mul-lanes c = omega arith
-
 array-write-lanes : tie.Need-array-write-lanes Inv-loop μ-loop
 array-write-lanes c = omega arith
 
@@ -51,9 +48,6 @@ every-lane-requires c κs = search needs
 
 add-lanes : tie.Need-add-lanes Inv-loop μ-loop
 add-lanes c = omega arith
-
-mul-lanes-2 : tie.Need-mul-lanes-2 Inv-loop μ-loop
-mul-lanes-2 c = omega arith
 
 array-write-lanes-2 : tie.Need-array-write-lanes-2 Inv-loop μ-loop
 array-write-lanes-2 c = omega arith
@@ -84,11 +78,9 @@ lanes-of-spec =
     mul-row
     element-copy-out-row
     top-lane-requires
-    mul-lanes
     array-write-lanes
     every-lane-requires
     add-lanes
-    mul-lanes-2
     array-write-lanes-2
     add-i
     loop-less

@@ -32,9 +32,6 @@ mul-row c = omega arith
 element-copy-out-row : tie.Need-element-copy-out-row Inv-loop μ-loop
 element-copy-out-row c = omega arith
 
-mul-top : tie.Need-mul-top Inv-loop μ-loop
-mul-top c = omega arith
-
 element-copy-out-top : tie.Need-element-copy-out-top Inv-loop μ-loop
 element-copy-out-top c = omega arith
 
@@ -73,7 +70,6 @@ miss-spec =
     loop-holds
     mul-row
     element-copy-out-row
-    mul-top
     element-copy-out-top
     miss-rule-requires
     add-i

@@ -8,7 +8,7 @@ use Rattle.fillings.specs.Flags.{flagsAt, firstPossible, firstHeld}
 use Rattle.fillings.specs.Bounds.{leastAfter, greatestAfter}
 use Rattle.bounds.specs.Lanes.{paired}
 use Rattle.bounds.specs.Plan.{testsOf, lanesOf}
-use Rattle.bounds.specs.Steps.{statesSeen, statesMissed, flagsOfStates}
+use Rattle.bounds.specs.Steps.{Within32, statesSeen, statesMissed, flagsOfStates}
 use Rattle.bounds.specs.Firsts.{none, firstsSeen, firstsMissed}
 
 -- The least states of the sixteen rules once the first k ticks have passed, then the greatest.
@@ -23,7 +23,7 @@ firstsAt p trace k = paired (λ i. firstHeld (ruleOf p i) trace k) (λ i. firstP
 pub record Tracked (p : Config) (trace : ℕ → Shown) : Type 0 where
   pub begins : paired (λ i. 0) (λ i. 0) ≡ statesAt p trace 0
   pub beginsFirsts : paired (λ i. none) (λ i. none) ≡ firstsAt p trace 0
-  pub sees : (k : ℕ) (x : Sample) → trace k ≡ seen x
+  pub sees : (k : ℕ) (x : Sample) → trace k ≡ seen x → Within32 (readingsOf x)
       → statesSeen (testsOf (p .settings)) (lanesOf (p .settings)) (p .idle) k (readingsOf x) (statesAt p trace k) ≡ statesAt p trace (suc k)
   pub seesFirsts : (k : ℕ) → k < none
       → firstsSeen (lanesOf (p .settings)) k (statesAt p trace k) (statesAt p trace (suc k)) (firstsAt p trace k) ≡ firstsAt p trace (suc k)

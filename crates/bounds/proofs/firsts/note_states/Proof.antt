@@ -16,14 +16,8 @@ abbrev μ-loop : tie.MeasureT-loop
 loop-holds : tie.Need-loop-holds Inv-loop μ-loop
 loop-holds c = noting-start _ _ _ _ (c .before .before .pre .1)
 
-mul-top : tie.Need-mul-top Inv-loop μ-loop
-mul-top c = omega arith
-
 element-copy-out-top : tie.Need-element-copy-out-top Inv-loop μ-loop
 element-copy-out-top c = omega arith
-
-mul-note-lane : tie.Need-mul-note-lane Inv-loop μ-loop
-mul-note-lane c = omega arith
 
 shared-slice-read-note-lane : tie.Need-shared-slice-read-note-lane Inv-loop μ-loop
 shared-slice-read-note-lane c = omega (arith, c .before .before .before .before .before .before .before .pre .0)
@@ -36,9 +30,6 @@ add-note-lane c = omega arith
 
 add-note-lane-2 : tie.Need-add-note-lane-2 Inv-loop μ-loop
 add-note-lane-2 c = omega arith
-
-mul-note-lane-2 : tie.Need-mul-note-lane-2 Inv-loop μ-loop
-mul-note-lane-2 c = omega arith
 
 shared-slice-read-note-lane-2 : tie.Need-shared-slice-read-note-lane-2 Inv-loop μ-loop
 shared-slice-read-note-lane-2 c = omega (arith, c .before .before .before .before .before .before .before .before .before .before .before .before .pre .0)
@@ -68,14 +59,11 @@ note-states-spec =
     Inv-loop
     μ-loop
     loop-holds
-    mul-top
     element-copy-out-top
-    mul-note-lane
     shared-slice-read-note-lane
     note-lane-requires
     add-note-lane
     add-note-lane-2
-    mul-note-lane-2
     shared-slice-read-note-lane-2
     note-lane-requires-2
     add-i

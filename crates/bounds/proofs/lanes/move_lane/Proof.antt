@@ -8,9 +8,6 @@ use borrow.Author.Needs.{needs}
 use Rattle.bounds.proofs.lanes.move_lane.Statement.{statement}
 use Rattle.bounds.proofs.lanes.move_lane.Tie as tie
 
-mul-s : tie.Need-mul-s
-mul-s c = search needs
-
 slice-read-s : tie.Need-slice-read-s
 slice-read-s c = search needs
 
@@ -19,9 +16,6 @@ stepped-requires c κs = search needs
 
 chosen-requires : tie.Need-chosen-requires
 chosen-requires c κs = search needs
-
-mul-states : tie.Need-mul-states
-mul-states c = search needs
 
 slice-write-states : tie.Need-slice-write-states
 slice-write-states c = search needs
@@ -42,11 +36,9 @@ pub move-lane-spec : {M : Type 1} → statement M
 move-lane-spec =
     tie.close
     (tie.spec
-    mul-s
     slice-read-s
     stepped-requires
     chosen-requires
-    mul-states
     slice-write-states
     has-risen-requires
     same-length

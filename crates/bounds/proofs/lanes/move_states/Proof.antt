@@ -18,32 +18,20 @@ loop-holds c = moving-start _ _ _ _ (c .before .pre)
 add-goes : tie.Need-add-goes Inv-loop μ-loop
 add-goes c = omega arith
 
-mul-goes : tie.Need-mul-goes Inv-loop μ-loop
-mul-goes c = omega arith
-
 element-copy-out-goes : tie.Need-element-copy-out-goes Inv-loop μ-loop
 element-copy-out-goes c = omega arith
 
 goes-requires : tie.Need-goes-requires Inv-loop μ-loop
 goes-requires c κs = search needs
 
-mul-top : tie.Need-mul-top Inv-loop μ-loop
-mul-top c = omega arith
-
 element-copy-out-top : tie.Need-element-copy-out-top Inv-loop μ-loop
 element-copy-out-top c = omega arith
-
-mul-trip : tie.Need-mul-trip Inv-loop μ-loop
-mul-trip c = omega arith
 
 array-read-trip : tie.Need-array-read-trip Inv-loop μ-loop
 array-read-trip c = omega arith
 
 add-clear : tie.Need-add-clear Inv-loop μ-loop
 add-clear c = omega arith
-
-mul-clear : tie.Need-mul-clear Inv-loop μ-loop
-mul-clear c = omega arith
 
 array-read-clear : tie.Need-array-read-clear Inv-loop μ-loop
 array-read-clear c = omega arith
@@ -83,15 +71,11 @@ move-states-spec =
     μ-loop
     loop-holds
     add-goes
-    mul-goes
     element-copy-out-goes
     goes-requires
-    mul-top
     element-copy-out-top
-    mul-trip
     array-read-trip
     add-clear
-    mul-clear
     array-read-clear
     move-lane-requires
     add-move-lane

@@ -11,17 +11,11 @@ use Rattle.bounds.proofs.unseen.miss_rule.Tie as tie
 evaluations-in-requires : tie.Need-evaluations-in-requires
 evaluations-in-requires c κs = search needs
 
-mul-least : tie.Need-mul-least
-mul-least c = search needs
-
 slice-read-least : tie.Need-slice-read-least
 slice-read-least c = search needs
 
 add-greatest : tie.Need-add-greatest
 add-greatest c = search needs
-
-mul-greatest : tie.Need-mul-greatest
-mul-greatest c = search needs
 
 slice-read-greatest : tie.Need-slice-read-greatest
 slice-read-greatest c = search needs
@@ -38,9 +32,6 @@ slice-read-known c = search needs
 least-missed-requires : tie.Need-least-missed-requires
 least-missed-requires c κs = search needs
 
-mul-states : tie.Need-mul-states
-mul-states c = search needs
-
 slice-write-states : tie.Need-slice-write-states
 slice-write-states c = search needs
 
@@ -49,9 +40,6 @@ greatest-missed-requires c κs = search needs
 
 add-states : tie.Need-add-states
 add-states c = search needs
-
-mul-states-2 : tie.Need-mul-states-2
-mul-states-2 c = search needs
 
 slice-write-states-2 : tie.Need-slice-write-states-2
 slice-write-states-2 c = omega (arith, length-set (c .before .before .before .before .before .before .before .before .args .states .now) (c .before .before .before .before .before .before .before .before .args .i) (c .before .least-missed .result), c .before .before .before .before .before .before .before .before .pre .0, c .before .before .before .before .before .before .before .before .pre .1)
@@ -95,20 +83,16 @@ miss-rule-spec =
     tie.close
     (tie.spec
     evaluations-in-requires
-    mul-least
     slice-read-least
     add-greatest
-    mul-greatest
     slice-read-greatest
     add-known
     mul-known
     slice-read-known
     least-missed-requires
-    mul-states
     slice-write-states
     greatest-missed-requires
     add-states
-    mul-states-2
     slice-write-states-2
     top-tick-requires
     note-requires
