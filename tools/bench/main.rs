@@ -1,13 +1,18 @@
-// The proved judge beside the plain one: the same captures, in the same run. Stops if they differ in a byte. Then a sample of the
+// The proved judge beside two plain ones: the same captures, in the same run. Stops if they differ in a byte. Then a sample of the
 // live feed.
+mod captures;
+#[path = "plain_judge.rs"]
 mod plain_judge;
+mod states_as_bounds;
 #[path = "../trace/bytes.rs"]
 mod trace_bytes;
 
-use plain_judge::{judge, reply_count};
+use captures::{capture, one_hole, sample, with_replies, CELLS};
+use plain_judge::{judge, judge_with, reply_count};
+use states_as_bounds::Bounds;
 use std::hint::black_box;
 use std::time::Instant;
-use trace_bytes::{seal, Sample, Trace};
+use trace_bytes::{Sample, Trace};
 
 extern "C" {
     fn buttmitrel_judge(
@@ -47,118 +52,33 @@ extern "C" {
     ) -> u64;
 }
 
-const CELLS: u8 = 12;
+// They answer 0 for accepted, else the refusal's number and place.
+type Judge = fn(&[u8], &mut [u8], &mut [u8]) -> u64;
 
-// 0 for accepted, else the refusal's number and place.
+// In the order of the table, and so are the seconds a call.
+const JUDGES: [Judge; 3] = [proved, with_bounds, with_sets];
+type Times = [f64; 3];
+
 fn proved(trace: &[u8], report: &mut [u8], verdicts: &mut [u8]) -> u64 {
     let (r, v) = (report.as_mut_ptr(), verdicts.as_mut_ptr());
     unsafe { buttmitrel_judge(trace.as_ptr(), trace.len(), r, report.len(), v, verdicts.len()) }
 }
 
 #[inline(never)]
-fn plain(trace: &[u8], report: &mut [u8], verdicts: &mut [u8]) -> u64 {
-    match judge(trace, report, verdicts) {
+fn with_bounds(trace: &[u8], report: &mut [u8], verdicts: &mut [u8]) -> u64 {
+    answer(judge_with::<Bounds>(trace, report, verdicts))
+}
+
+#[inline(never)]
+fn with_sets(trace: &[u8], report: &mut [u8], verdicts: &mut [u8]) -> u64 {
+    answer(judge(trace, report, verdicts))
+}
+
+fn answer(judged: Result<(), (u8, u32)>) -> u64 {
+    match judged {
         Ok(()) => 0,
         Err((number, place)) => (number as u64) << 32 | place as u64,
     }
-}
-
-// All sixteen rules on at T = 255.
-fn rules() -> [(i32, i32, u16); 16] {
-    [
-        (4200, 4100, 255),
-        (2800, 3000, 255),
-        (50_000, 49_500, 255),
-        (34_500, 36_000, 255),
-        (3000, 2500, 255),
-        (-3000, -2500, 255),
-        (450, 400, 255),
-        (600, 550, 255),
-        (700, 650, 255),
-        (-100, -50, 255),
-        (4350, 0, 255),
-        (4000, 0, 255),
-        (-4000, 0, 255),
-        (500, 0, 255),
-        (650, 0, 255),
-        (800, 0, 255),
-    ]
-}
-
-// A value that rises from `low` to `high` and falls again in `period` ticks.
-fn wave(tick: u32, period: u32, low: i32, high: i32) -> i32 {
-    let at = (tick % period) as i32;
-    let half = (period / 2) as i32;
-    low + (high - low) * (half - (at - half).abs()) / half
-}
-
-// Cells differ by up to 77 mV, and the fourth falls behind now and then.
-fn sample(tick: u32) -> Sample {
-    let volt = wave(tick + 900, 2400, 2500, 4500);
-    let heat = wave(tick + 1200, 3100, -300, 900);
-    let behind = wave(tick + 2000, 5300, -2500, 1200).max(0);
-    let cell = |k: u32| volt - 7 * ((tick + 5 * k) % 12) as i32 - if k == 3 { behind } else { 0 };
-    Sample {
-        tick,
-        current: wave(tick, 1700, -5000, 5000) as i16,
-        board: wave(tick + 1500, 4100, 200, 900) as i16,
-        volts: (0..CELLS as u32).map(|k| cell(k) as u16).collect(),
-        temps: (0..CELLS as u32).map(|k| (heat - 3 * ((tick + k) % 5) as i32) as i16).collect(),
-    }
-}
-
-// One tick in a hundred is unseen, odd and even ones by turns.
-fn unseen(tick: u32) -> bool {
-    tick % 100 == 99 - tick / 100 % 2
-}
-
-// A capture of `count` samples.
-fn capture(count: usize) -> Trace {
-    let mut t = Trace::new(CELLS);
-    (t.idle, t.rules) = (50, rules());
-    for tick in 0.. {
-        if t.samples.len() == count {
-            break;
-        }
-        if unseen(tick) {
-            t.holes.push((tick, tick));
-        } else {
-            t.samples.push(sample(tick));
-        }
-    }
-    t
-}
-
-fn one_hole(ticks: u32) -> Trace {
-    Trace { holes: vec![(0, ticks - 1)], ..capture(0) }
-}
-
-// A reply every ten ticks, each tenth at an unseen tick: right and wrong ones, and the status.
-fn with_replies(mut t: Trace) -> Trace {
-    for k in 0..1000u32 {
-        let tick = (10 * k..10 * k + 10).find(|&tick| unseen(tick)).unwrap_or(10 * k);
-        let s = sample(tick);
-        let sum: u32 = s.volts.iter().map(|&v| v as u32).sum();
-        let mut bus = match k % 7 {
-            0 | 3 => seal(0x09, sum as u16),
-            1 | 4 => seal(0x0a, s.current as u16),
-            2 => seal(0x0d, 50),
-            5 => seal(0x09, sum as u16 + 1),
-            _ => seal(0x16, [0, 0x4800, 0x5800, 0x1000][k as usize / 7 % 4]),
-        };
-        match k % 13 {
-            3 => bus[0] = 0x14,
-            7 => bus[5] ^= 1,
-            _ => {}
-        }
-        t.replies.push((tick, bus));
-    }
-    t
-}
-
-struct Times {
-    proved: f64,
-    plain: f64,
 }
 
 // Seconds a call.
@@ -173,21 +93,29 @@ fn mean(calls: u32, mut run: impl FnMut() -> u64) -> f64 {
 // The least times of a second of turns, each judge in its turn.
 fn measure(name: &str, trace: &[u8]) -> Times {
     let n = reply_count(trace);
-    let (mut a, mut b) = (([0xaa; 187], vec![0xbb; n]), ([0xaa; 187], vec![0xbb; n]));
-    let (x, y) = (proved(trace, &mut a.0, &mut a.1), plain(trace, &mut b.0, &mut b.1));
-    if x != y || a != b {
-        eprintln!("bench: the judges differ at {name}: {x:#x} and {y:#x}\n{a:02x?}\n{b:02x?}");
+    // Both on the heap: the shortest times of the proved judge change with the place of a buffer on the stack.
+    let answers = JUDGES.map(|judge| {
+        let (mut report, mut verdicts) = (vec![0xaa; 187], vec![0xbb; n]);
+        (judge(trace, &mut report, &mut verdicts), report, verdicts)
+    });
+    if answers.iter().any(|other| *other != answers[0]) {
+        eprintln!("bench: the judges differ at {name}");
+        for (answer, report, verdicts) in answers {
+            eprintln!("{answer:#x}\n{report:02x?}\n{verdicts:02x?}");
+        }
         std::process::exit(1);
     }
-    assert!(x == 0, "{name}: refused");
-    assert!(n == 0 || (1..=6).all(|verdict| a.1.contains(&verdict)), "{name}: a verdict never came up");
-    let once = mean(1, || plain(trace, &mut b.0, &mut b.1));
-    let calls = (0.002 / once).clamp(1.0, 10_000.0) as u32;
-    let mut least = Times { proved: f64::INFINITY, plain: f64::INFINITY };
+    let [(answer, mut report, mut verdicts), ..] = answers;
+    assert!(answer == 0, "{name}: refused");
+    assert!(n == 0 || (1..=6).all(|verdict| verdicts.contains(&verdict)), "{name}: a verdict never came up");
+    let mut time = |judge: Judge, calls| mean(calls, || judge(black_box(trace), &mut report, &mut verdicts));
+    let calls = (0.002 / time(with_sets, 1)).clamp(1.0, 10_000.0) as u32;
+    let mut least = [f64::INFINITY; 3];
     let start = Instant::now();
     while start.elapsed().as_secs_f64() < 1.0 {
-        least.proved = least.proved.min(mean(calls, || proved(black_box(trace), &mut a.0, &mut a.1)));
-        least.plain = least.plain.min(mean(calls, || plain(black_box(trace), &mut b.0, &mut b.1)));
+        for (least, judge) in least.iter_mut().zip(JUDGES) {
+            *least = least.min(time(judge, calls));
+        }
     }
     least
 }
@@ -226,16 +154,24 @@ fn text(seconds: f64) -> String {
 
 fn line(name: &str, t: &Trace) -> Times {
     let times = measure(name, &t.bytes());
+    let ([proved, bounds, sets], [p, b, s]) = (times, times.map(text));
     let rate = match t.samples.len() {
         0 => String::new(),
-        n => format!("{:.2} million", n as f64 / times.proved / 1e6),
+        n => format!("{:.2} million", n as f64 / proved / 1e6),
     };
-    println!("| {name} | {} | {} | {:.2} | {rate} |", text(times.proved), text(times.plain), times.proved / times.plain);
+    println!("| {name} | {p} | {b} | {s} | {:.2} | {:.2} | {rate} |", proved / bounds, proved / sets);
     times
 }
 
+// What each judge's time on one capture is over that on another.
+fn compare(what: &str, times: Times, others: Times, scale: f64) {
+    let [p, b, s] = [0, 1, 2].map(|k| times[k] / others[k] * scale);
+    println!("{what}: proved {p:.2}, plain {b:.2} with two numbers and {s:.2} with sets.");
+}
+
 fn main() {
-    println!("| capture | proved | plain Rust | ratio | samples a second, proved |\n|--|--|--|--|--|");
+    println!("| capture | proved | plain, two numbers | plain, sets | ratio, two numbers | ratio, sets | samples a second, proved |");
+    println!("|--|--|--|--|--|--|--|");
     let short = line("1,000 samples", &capture(1000));
     line("10,000 samples", &capture(10_000));
     let long = line("65,535 samples", &capture(65_535));
@@ -244,10 +180,8 @@ fn main() {
     line("a hole of 1 tick", &one_hole(1));
     line("a hole of 1,000,000 ticks", &one_hole(1_000_000));
     let giant = line("a hole of 4,294,967,295 ticks", &one_hole(u32::MAX));
-    let growth = |long: f64, short: f64| long / 65_535.0 / (short / 1000.0);
-    let (p, q) = (growth(long.proved, short.proved), growth(long.plain, short.plain));
-    println!("\nTime a sample at 65,535 samples over that at 1,000: proved {p:.2}, plain Rust {q:.2}.");
-    let (p, q) = (giant.proved / empty.proved, giant.plain / empty.plain);
-    println!("Time of the hole of 4,294,967,295 ticks over that of no record: proved {p:.1}, plain Rust {q:.1}.");
+    println!();
+    compare("Time a sample at 65,535 samples over that at 1,000", long, short, 1000.0 / 65_535.0);
+    compare("Time of the hole of 4,294,967,295 ticks over that of no record", giant, empty, 1.0);
     println!("A live sample of {CELLS} cells with its checks: {}.", text(live_sample()));
 }
