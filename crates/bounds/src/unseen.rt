@@ -34,9 +34,11 @@ fn greatest_missed(top: u8, n: u64, s: u8) -> u8
         return s;
     }
     if s < top {
-        if n < (top - s) as u64 {
+        let room = top - s;
+        if n < room as u64 {
             return s + n as u8;
         }
+        return s + room;
     }
     top
 }
