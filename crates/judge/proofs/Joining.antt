@@ -5,8 +5,7 @@ use mathlib.Core.List.{List}
 use lib.ListN.{getD}
 use Rattle.lists.proofs.Bools.{tabulate-same}
 use Rattle.report.specs.declared.FirstTicks.{FirstTicks}
-use Rattle.fillings.specs.Fillings.{Shown, Config, ruleOf}
-use Rattle.fillings.specs.Flags.{firstPossible, firstHeld}
+use Rattle.fillings.specs.Fillings.{Shown, Config}
 use Rattle.bounds.specs.promises.Tracking as lanes
 use Rattle.bounds.proofs.Paired.{paired-low, paired-high}
 use Rattle.demands.specs.Report.{firstsAt}

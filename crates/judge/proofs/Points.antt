@@ -1,10 +1,9 @@
 -- The verdict on a reply, and the bits of BatteryStatus, from where the walk stands.
-use Prim.Native.Nat.{ℕ, _≤_}
-use mathlib.Core.Path.{_≡_, refl, sym, ap, _∙_}
+use Prim.Native.Nat.{ℕ}
+use mathlib.Core.Path.{_≡_, sym, ap, _∙_}
 use mathlib.Core.Bool.{Bool, cond}
 use mathlib.Core.List.{List}
 use native.Mathlib.Omega.{arith}
-use lib.Dec.{eqb}
 use lib.IntN.{ℤ}
 use lib.ListN.{length}
 use borrow.Author.Tests.{eq-eqb}
@@ -38,10 +37,6 @@ never-unjudged tick a bytes number place l e f =
 pub alarms-known : {f : Frame} {tests : List ℤ} {lanes holes samples : List ℕ} {x : Stop} {states firsts : List ℕ} → Planned f tests lanes → At f holes samples x states firsts
     → {alarms : Alarms} → alarms ≡ alarmsOf (flagsOfStates lanes states) → alarms ≡ alarmsAt (configIn f) (shows (f .cells) samples) (x .cursor .tick)
 alarms-known planned g e = e ∙ ap alarmsOf (flags-known (g .ready) planned (g .known))
-
-pub point-kept : {f : Frame} {holes samples : List ℕ} {x : Point} {states firsts : List ℕ} {to : ℕ} → AtPoint f holes samples x states firsts
-    → x .stop .cursor .tick ≤ to → to ≤ x .stop .cursor .tick → Reached f holes samples x to states firsts
-point-kept g l n = record { there = g; at = omega arith }
 
 pub point-reached : {f : Frame} {tests : List ℤ} {lanes holes samples : List ℕ} {x : Stop} {to : ℕ} {states firsts : List ℕ} {alarms : Alarms} → Planned f tests lanes → Arrived f holes samples x to states firsts
     → alarms ≡ alarmsOf (flagsOfStates lanes states) → Reached f holes samples (record { stop = x; alarms = alarms }) to states firsts
