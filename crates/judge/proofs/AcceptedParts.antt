@@ -1,5 +1,5 @@
 -- The parts of an accepted trace, and what is written of them.
-use Prim.Native.Nat.{ℕ, _+_, _*_, _/_, _≤_, _<_}
+use Prim.Native.Nat.{ℕ, _+_, _/_, _<_}
 use mathlib.Core.Path.{_≡_, refl, sym, ap, _∙_}
 use mathlib.Core.List.{List, map}
 use native.Mathlib.Omega.{arith}
@@ -17,7 +17,7 @@ use Rattle.report.proofs.WholeReport.{report-whole, totals-same}
 use Rattle.report.specs.Layout.{reportBytes, reported}
 use Rattle.totals.proofs.AcceptedTotals as totals
 use Rattle.ticks.specs.Traces.{traceOf, shown}
-use Rattle.ticks.proofs.AcceptedBytes.{accepted, checks, short-times}
+use Rattle.ticks.proofs.AcceptedBytes.{accepted, checks}
 use Rattle.fillings.specs.Flags.{flagsAt}
 use Rattle.demands.specs.Report.{firstsAt, totalsAt, traceReport}
 use Rattle.demands.specs.Verdicts.{verdictOn, traceVerdicts}
@@ -44,9 +44,6 @@ module _ (s : List ℕ) (l : Layout) (ss : Settings) (t : ℕ) (h : acceptAnswer
   pub parts : PartsAre s l
   parts = parts-are s l (checks s w h .walked)
 
-  sixteen : length (ss .of) ≤ 16
-  sixteen = let e = ap length (checks s w h .settings) in omega arith
-
   reply-count : l .«reply_count» ≡ length (repliesPart s l) / 10
   reply-count =
       let g = parts in
@@ -57,7 +54,7 @@ module _ (s : List ℕ) (l : Layout) (ss : Settings) (t : ℕ) (h : acceptAnswer
   frame = record { cells = l .cells; idle = l .idle; width = l .«sample_width»; ticks = t; settings = ss }
 
   ready : Ready frame
-  ready = let ok = accepted s w h in record { sound = ok .rules; short = short-times (traceOf s w .config) (ok .rules) sixteen; wide = parts .wide }
+  ready = record { sound = accepted s w h .rules; wide = parts .wide }
 
   pub is-parts : ((i : ℕ) → getD s i 0 < 256) → (verdicts : ℕ) → verdicts ≡ l .«reply_count»
       → Parts frame (holesPart s l) (repliesPart s l) (samplesPart s l) verdicts

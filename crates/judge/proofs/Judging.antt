@@ -27,8 +27,8 @@ use Rattle.judge.specs.declared.advance.Frame.{Frame}
 use Rattle.judge.specs.inner.Walk.{configIn, Known, AtPoint, Reached}
 
 -- The replies below number j are judged, and the walk has not passed the next one; `low` is the tick of the last one.
-pub record Judging (f : Frame) (holes samples replies : List ℕ) (words possible held verdicts : List ℕ) (x : Point) (j : ℕ) : Type 0 where
-  pub there : AtPoint f holes samples x words possible held
+pub record Judging (f : Frame) (holes samples replies : List ℕ) (states firsts verdicts : List ℕ) (x : Point) (j : ℕ) : Type 0 where
+  pub there : AtPoint f holes samples x states firsts
   pub count : length verdicts ≡ length replies / 10
   pub within : j ≤ length verdicts
   pub low : ℕ
@@ -36,9 +36,9 @@ pub record Judging (f : Frame) (holes samples replies : List ℕ) (words possibl
   pub left : repliesAnswer (f .ticks) (repliesFrom replies (length replies / 10 - j) (j * 10)) j low ≡ answer tt
   pub judged : map (verdictOn (configIn f) (shows (f .cells) samples)) (repliesIn replies) ≡ take j verdicts ++ map (verdictOn (configIn f) (shows (f .cells) samples)) (repliesFrom replies (length replies / 10 - j) (j * 10))
 
-pub judging-start : {f : Frame} {holes samples replies : List ℕ} {words possible held verdicts : List ℕ} {x : Point} → AtPoint f holes samples x words possible held
+pub judging-start : {f : Frame} {holes samples replies : List ℕ} {states firsts verdicts : List ℕ} {x : Point} → AtPoint f holes samples x states firsts
     → x .stop .cursor .tick ≤ 1 → repliesAnswer (f .ticks) (repliesIn replies) 0 0 ≡ answer tt → length verdicts ≡ length replies / 10
-    → Judging f holes samples replies words possible held verdicts x 0
+    → Judging f holes samples replies states firsts verdicts x 0
 judging-start {f} {samples = samples} {replies} g l a n =
     let e : length replies / 10 ≡ length replies / 10 - 0 = omega arith in
     record {
@@ -52,13 +52,13 @@ judging-start {f} {samples = samples} {replies} g l a n =
     }
 
 -- The verdict from where the walk stands after the reply's tick.
-verdict-here : (f : Frame) (holes samples : List ℕ) (words possible held : List ℕ) (x : Point) (tick : ℕ) (bytes : List ℕ) → AtPoint f holes samples x words possible held
+verdict-here : (f : Frame) (holes samples : List ℕ) (states firsts : List ℕ) (x : Point) (tick : ℕ) (bytes : List ℕ) → AtPoint f holes samples x states firsts
     → x .stop .cursor .tick ≡ suc tick → verdictOf (x .stop .shown) (x .alarms) bytes ≡ verdictOn (configIn f) (shows (f .cells) samples) (record { tick = tick; bytes = bytes })
-verdict-here f holes samples words possible held x tick bytes g e =
+verdict-here f holes samples states firsts x tick bytes g e =
     ap₂ (λ (t : Tick) (a : Alarms). verdictOf t a bytes) (g .there .shown tick e)
     (g .alarms ∙ ap (alarmsAt (configIn f) (shows (f .cells) samples)) e)
 
-module _ {f : Frame} {holes samples replies : List ℕ} {words possible held verdicts : List ℕ} {x : Point} {j : ℕ} (g : Judging f holes samples replies words possible held verdicts x j) where
+module _ {f : Frame} {holes samples replies : List ℕ} {states firsts verdicts : List ℕ} {x : Point} {j : ℕ} (g : Judging f holes samples replies states firsts verdicts x j) where
   abbrev n : ℕ
   n = length replies / 10
 
@@ -99,15 +99,15 @@ module _ {f : Frame} {holes samples replies : List ℕ} {words possible held ver
       let k : 6 ≤ length (drop (j * 10 + 4) replies) = omega (arith, length-drop (j * 10 + 4) replies) in
       ap (λ (i : ℕ). length (take i (drop (j * 10 + 4) replies))) e ∙ length-take-le 6 (drop (j * 10 + 4) replies) k
 
-  pub judging-next : j < length verdicts → (to v : ℕ) {words′ possible′ held′ : List ℕ} {x′ : Point} → to ≡ u32At replies (j * 10) + 1
-      → Reached f holes samples x′ to words′ possible′ held′
+  pub judging-next : j < length verdicts → (to v : ℕ) {states′ firsts′ : List ℕ} {x′ : Point} → to ≡ u32At replies (j * 10) + 1
+      → Reached f holes samples x′ to states′ firsts′
       → v ≡ verdictOf (x′ .stop .shown) (x′ .alarms) (take (j * 10 + 10 - (j * 10 + 4)) (drop (j * 10 + 4) replies))
-      → Judging f holes samples replies words′ possible′ held′ (set verdicts j v) x′ (j + 1)
+      → Judging f holes samples replies states′ firsts′ (set verdicts j v) x′ (j + 1)
   judging-next h to v {x′ = x′} t r e =
       let six : j * 10 + 10 - (j * 10 + 4) ≡ 6 = omega arith in
       let tick : x′ .stop .cursor .tick ≡ suc (u32At replies (j * 10)) = r .at ∙ t ∙ add-one _ in
       let is : v ≡ verdict reply =
-      e ∙ ap (λ (i : ℕ). verdictOf (x′ .stop .shown) (x′ .alarms) (take i (drop (j * 10 + 4) replies))) six ∙ verdict-here _ _ _ _ _ _ x′ _ _ (r .there) tick in
+      e ∙ ap (λ (i : ℕ). verdictOf (x′ .stop .shown) (x′ .alarms) (take i (drop (j * 10 + 4) replies))) six ∙ verdict-here _ _ _ _ _ x′ _ _ (r .there) tick in
       let split = spaced-next (replyAt replies) 10 (length replies / 10 - j) (j * 10) (some h) in
       let d : length replies / 10 - j - 1 ≡ length replies / 10 - (j + 1) = omega arith in
       let a : j * 10 + 10 ≡ (j + 1) * 10 = omega arith in
@@ -142,5 +142,5 @@ module _ {f : Frame} {holes samples replies : List ℕ} {words possible held ver
       ∙ append-nil (take j verdicts)
       ∙ take-all j verdicts h)
 
-pub known-there : {f : Frame} {holes samples : List ℕ} {x : Point} {to : ℕ} {words possible held : List ℕ} → Reached f holes samples x to words possible held → Known (configIn f) samples to words possible held
-known-there {f} {samples = samples} {words = words} {possible} {held} r = subst (λ (k : ℕ). Known (configIn f) samples k words possible held) (r .at) (r .there .there .known)
+pub known-there : {f : Frame} {holes samples : List ℕ} {x : Point} {to : ℕ} {states firsts : List ℕ} → Reached f holes samples x to states firsts → Known (configIn f) samples to states firsts
+known-there {f} {samples = samples} {states = states} {firsts} r = subst (λ (k : ℕ). Known (configIn f) samples k states firsts) (r .at) (r .there .there .known)

@@ -1,16 +1,14 @@
 -- The verdict on a reply, and the bits of BatteryStatus, from where the walk stands.
-use Prim.Native.Nat.{ℕ, _≤_}
-use mathlib.Core.Path.{_≡_, refl, sym, ap, _∙_}
+use Prim.Native.Nat.{ℕ}
+use mathlib.Core.Path.{_≡_, sym, ap, _∙_}
 use mathlib.Core.Bool.{Bool, cond}
 use mathlib.Core.List.{List}
 use native.Mathlib.Omega.{arith}
-use lib.Dec.{eqb}
+use lib.IntN.{ℤ}
 use lib.ListN.{length}
 use borrow.Author.Tests.{eq-eqb}
 use Rattle.refusals.specs.Refusals.{Answer, answer, refused}
-use Rattle.flags.specs.declared.RuleFlags.{RuleFlags}
-use Rattle.states.specs.Readings.{allFlags}
-use Rattle.states.proofs.Tracking.{tracks}
+use Rattle.bounds.specs.Steps.{flagsOfStates}
 use Rattle.verdicts.specs.declared.Tick.{Tick}
 use Rattle.verdicts.specs.declared.Alarms.{Alarms}
 use Rattle.verdicts.specs.Verdicts.{verdictOf, verdictAnswer}
@@ -19,7 +17,8 @@ use Rattle.walk.specs.inner.Places.{shows}
 use Rattle.judge.specs.declared.advance.Frame.{Frame}
 use Rattle.judge.specs.declared.advance.Stop.{Stop}
 use Rattle.judge.specs.declared.replies.Point.{Point}
-use Rattle.judge.specs.inner.Walk.{configIn, At, Arrived, alarmsOf, AtPoint, Reached}
+use Rattle.judge.specs.inner.Walk.{configIn, Planned, At, Arrived, alarmsOf, AtPoint, Reached}
+use Rattle.judge.proofs.Knowing.{flags-known}
 
 six : (tick : Tick) (a : Alarms) (bytes : List ℕ) → length bytes ≡ 6 → verdictAnswer tick a bytes ≡ answer (verdictOf tick a bytes)
 unfolding verdictAnswer
@@ -34,18 +33,11 @@ never-unjudged tick a bytes number place l e f =
     let h : refused number place ≡ answer (verdictOf tick a bytes) = sym f ∙ e ∙ six tick a bytes l in
     let z : _≡_ {A = ℕ} 0 1 = cc in omega arith
 
--- The bits, from the record that is known.
-pub alarms-known : {f : Frame} {holes samples : List ℕ} {x : Stop} {words possible held : List ℕ} → At f holes samples x words possible held
-    → (alarms : Alarms) → alarms ≡ alarmsOf (allFlags (f .settings .of) words) → alarms ≡ alarmsAt (configIn f) (shows (f .cells) samples) (x .cursor .tick)
-alarms-known {f} {samples = samples} {x = x} g alarms e =
-    e
-    ∙ ap (λ (ws : List ℕ). alarmsOf (allFlags (f .settings .of) ws)) (g .known .states)
-    ∙ ap alarmsOf (tracks (configIn f) (g .ready .short) (shows (f .cells) samples) .reads (x .cursor .tick))
+-- The bits, from the states that are known.
+pub alarms-known : {f : Frame} {tests : List ℤ} {lanes holes samples : List ℕ} {x : Stop} {states firsts : List ℕ} → Planned f tests lanes → At f holes samples x states firsts
+    → {alarms : Alarms} → alarms ≡ alarmsOf (flagsOfStates lanes states) → alarms ≡ alarmsAt (configIn f) (shows (f .cells) samples) (x .cursor .tick)
+alarms-known planned g e = e ∙ ap alarmsOf (flags-known (g .ready) planned (g .known))
 
-pub point-kept : {f : Frame} {holes samples : List ℕ} {x : Point} {words possible held : List ℕ} (to : ℕ) → AtPoint f holes samples x words possible held
-    → x .stop .cursor .tick ≤ to → to ≤ x .stop .cursor .tick → Reached f holes samples x to words possible held
-point-kept to g l n = record { there = g; at = omega arith }
-
-pub point-reached : {f : Frame} {holes samples : List ℕ} {x : Stop} {to : ℕ} {words possible held : List ℕ} (alarms : Alarms) → Arrived f holes samples x to words possible held
-    → alarms ≡ alarmsOf (allFlags (f .settings .of) words) → Reached f holes samples (record { stop = x; alarms = alarms }) to words possible held
-point-reached alarms g e = record { there = record { there = g .there; alarms = alarms-known (g .there) alarms e }; at = g .at }
+pub point-reached : {f : Frame} {tests : List ℤ} {lanes holes samples : List ℕ} {x : Stop} {to : ℕ} {states firsts : List ℕ} {alarms : Alarms} → Planned f tests lanes → Arrived f holes samples x to states firsts
+    → alarms ≡ alarmsOf (flagsOfStates lanes states) → Reached f holes samples (record { stop = x; alarms = alarms }) to states firsts
+point-reached planned g e = record { there = record { there = g .there; alarms = alarms-known planned (g .there) e }; at = g .at }

@@ -21,7 +21,7 @@ same-length c = search needs
 
 returns : tie.Need-returns
 returns c =
-    let a = c .before .before .before .before .before .before .before .before .before .before .args in
+    let a = c .before .before .before .before .before .before .before .before .before .args in
     c .before .before .write-report .ensures .1
     ∙ ap₂ (λ (fs : List RuleFlags) (ts : List FirstTicks). reported fs ts (a .totals) (a .report .now)) (c .before .before .before .before .before .flags-in .ensures) (c .before .before .before .before .join-firsts .ensures)
 

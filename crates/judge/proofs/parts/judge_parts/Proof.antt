@@ -1,12 +1,20 @@
 use mathlib.Core.Path.{refl}
 use native.Mathlib.Omega.{arith}
 use borrow.Author.Needs.{needs}
+use Rattle.bounds.specs.Lanes.{paired}
+use Rattle.judge.specs.inner.Walk.{Planned}
 use Rattle.judge.proofs.Ends.{point-start, report-end}
 use Rattle.judge.proofs.parts.judge_parts.Statement.{statement}
 use Rattle.judge.proofs.parts.judge_parts.Tie as tie
 
-begin-requires : tie.Need-begin-requires
-begin-requires c κs = search needs
+tests-of-requires : tie.Need-tests-of-requires
+tests-of-requires c κs = search needs
+
+lanes-of-requires : tie.Need-lanes-of-requires
+lanes-of-requires c κs = search needs
+
+planned : (c : tie.After-lanes-of) → Planned (c .before .before .before .before .before .before .before .before .args .f) (c .before .tests-of .result) (c .lanes-of .result)
+planned c = record { tests = c .before .tests-of .ensures; lanes = c .lanes-of .ensures }
 
 slice-aggregate-start-at : tie.Need-slice-aggregate-start-at
 slice-aggregate-start-at c = search needs
@@ -20,26 +28,21 @@ slice-aggregate-judge-records c = search needs
 slice-aggregate-judge-records-2 : tie.Need-slice-aggregate-judge-records-2
 slice-aggregate-judge-records-2 c = search needs
 
-slice-aggregate-judge-records-3 : tie.Need-slice-aggregate-judge-records-3
-slice-aggregate-judge-records-3 c = search needs
-
 judge-records-requires : tie.Need-judge-records-requires
+unfolding paired
 judge-records-requires c κs =
-    let g = c .before .before .before .before .before .before .before .before .before .before .before .before .before .before .pre in
-    let e = c .before .before .before .before .start-at .ensures in
-    (point-start g _ _ _ (c .before .before .before .before .before .before .before .before .begin .ensures) refl e, rw e (omega arith), g .ticksOfReplies, g .count, g .few)
+    let g = c .before .before .before .before .before .before .before .before .before .before .before .before .before .before .before .before .pre in
+    let e = c .before .before .before .before .before .start-at .ensures in
+    (planned (c .before .before .before .before .before .before .before .before), point-start g (planned (c .before .before .before .before .before .before .before .before)) refl refl e, rw e (omega arith), g .ticksOfReplies, g .count, g .few)
 
 totals-of-requires : tie.Need-totals-of-requires
-totals-of-requires c κs = search needs
+totals-of-requires c κs = c .before .before .before .before .before .before .before .before .before .before .before .before .before .before .before .before .before .before .before .before .before .pre .unseenFew
 
 slice-aggregate-write-end : tie.Need-slice-aggregate-write-end
 slice-aggregate-write-end c = search needs
 
 slice-aggregate-write-end-2 : tie.Need-slice-aggregate-write-end-2
 slice-aggregate-write-end-2 c = search needs
-
-slice-aggregate-write-end-3 : tie.Need-slice-aggregate-write-end-3
-slice-aggregate-write-end-3 c = search needs
 
 write-end-requires : tie.Need-write-end-requires
 write-end-requires c κs = search needs
@@ -52,24 +55,23 @@ same-length-2 c = search needs
 
 returns : tie.Need-returns
 returns c =
-    let r = c .before .before .before .before .before .before .before .before .before .before .before .before .before .judge-records .ensures in
-    (report-end (c .before .before .before .before .before .before .before .before .before .before .before .before .before .before .before .before .before .before .before .before .before .before .before .before .before .before .before .before .pre) _ _ _ (r .0) (c .before .before .before .before .before .before .before .totals-of .ensures) (c .before .before .write-end .ensures), r .1)
+    let r = c .before .before .before .before .before .before .before .before .before .before .before .before .judge-records .ensures in
+    (report-end (c .before .before .before .before .before .before .before .before .before .before .before .before .before .before .before .before .before .before .before .before .before .before .before .before .before .before .before .before .before .pre) (planned (c .before .before .before .before .before .before .before .before .before .before .before .before .before .before .before .before .before .before .before .before .before)) _ (r .0) (c .before .before .before .before .before .before .before .totals-of .ensures) (c .before .before .write-end .ensures), r .1)
 
 pub judge-parts-spec : {M : Type 1} → statement M
 judge-parts-spec =
     tie.close
     (tie.spec
-    begin-requires
+    tests-of-requires
+    lanes-of-requires
     slice-aggregate-start-at
     start-at-requires
     slice-aggregate-judge-records
     slice-aggregate-judge-records-2
-    slice-aggregate-judge-records-3
     judge-records-requires
     totals-of-requires
     slice-aggregate-write-end
     slice-aggregate-write-end-2
-    slice-aggregate-write-end-3
     write-end-requires
     same-length
     same-length-2

@@ -4,28 +4,24 @@ use native.Mathlib.Omega.{arith}
 use lib.ListN.{length, length-set}
 use denote.Ref.{now}
 use borrow.Author.Needs.{needs}
-use Rattle.judge.proofs.Knowing.{long, sixteen, sixteen-held}
+use Rattle.judge.proofs.Knowing.{long, long-firsts}
 use Rattle.judge.proofs.Judging.{Judging, judging-start, next-reply, in-replies, six-bytes, judging-next, not-past, judging-end, known-there}
 use Rattle.judge.proofs.replies.judge_records.Statement.{statement}
 use Rattle.judge.proofs.replies.judge_records.Tie as tie
 
 abbrev Inv-loop : tie.InvT-loop
-Inv-loop holes samples replies f words₀ possible₀ held₀ verdicts₀ x₀ j₀ words possible held verdicts x j =
-    Judging f holes samples replies words possible held verdicts x j
+Inv-loop holes samples replies tests lanes f states₀ firsts₀ verdicts₀ x₀ j₀ states firsts verdicts x j =
+    Judging f holes samples replies states firsts verdicts x j
 
 abbrev μ-loop : tie.MeasureT-loop
-μ-loop holes samples replies f words₀ possible₀ held₀ verdicts₀ x₀ j₀ words possible held verdicts x j =
+μ-loop holes samples replies tests lanes f states₀ firsts₀ verdicts₀ x₀ j₀ states firsts verdicts x j =
     length verdicts - j
 
 loop-holds : tie.Need-loop-holds Inv-loop μ-loop
-loop-holds c =
-    let pre = c .before .before .before .before .before .before .before .pre in
-    judging-start (pre .0) (pre .1) (pre .2) (pre .3)
+loop-holds c = let pre = c .before .before .before .before .before .before .pre in judging-start (pre .1) (pre .2) (pre .3) (pre .4)
 
 mul-at : tie.Need-mul-at Inv-loop μ-loop
-mul-at c =
-    let l = in-replies (c .before .loop .inv) (c .loop-test .taken) in
-    omega arith
+mul-at c = let l = in-replies (c .before .loop .inv) (c .loop-test .taken) in omega arith
 
 u32-at-requires : tie.Need-u32-at-requires Inv-loop μ-loop
 u32-at-requires c κs = search needs
@@ -37,15 +33,16 @@ add-to c =
 
 reach-requires : tie.Need-reach-requires Inv-loop μ-loop
 reach-requires c κs =
-    let l = c .before .before .before .before .before in
-    let r = next-reply (l .loop .inv) (c .before .before .before .before .loop-test .taken) in
-    (l .loop .inv .there, omega (arith, c .before .before .before .u32-at .ensures, r .after, l .loop .inv .passed), omega (arith, c .before .before .before .u32-at .ensures, r .covered))
+    let i = c .before .before .before .before .loop .inv in
+    let u = c .before .before .u32-at .ensures in
+    let r = next-reply i (c .before .before .before .loop-test .taken) in
+    (c .before .before .before .before .before .before .before .before .before .before .before .pre .0, i .there, omega (arith, u, r .after, i .passed), omega (arith, u, r .covered))
 
 -- The ten bytes of a reply lie within the replies, which are few.
 lies : (c : tie.After-alarms Inv-loop μ-loop)
-    → (c .before .before .before .before .before .before .before .before .before .before .before .before .before .before .loop .j * 10 + 10 ≤ length (now (c .before .before .before .before .before .before .before .before .before .before .before .before .before .before .before .before .before .before .before .before .before .before .args .replies)))
-    × (length (now (c .before .before .before .before .before .before .before .before .before .before .before .before .before .before .before .before .before .before .before .before .before .before .args .replies)) ≤ 655350)
-lies c = (in-replies (c .before .before .before .before .before .before .before .before .before .before .before .before .before .before .loop .inv) (c .before .before .before .before .before .before .before .before .before .before .before .before .before .loop-test .taken), c .before .before .before .before .before .before .before .before .before .before .before .before .before .before .before .before .before .before .before .before .before .before .pre .4)
+    → (c .before .before .before .before .before .before .before .before .before .before .before .loop .j * 10 + 10 ≤ length (now (c .before .before .before .before .before .before .before .before .before .before .before .before .before .before .before .before .before .before .args .replies)))
+    × (length (now (c .before .before .before .before .before .before .before .before .before .before .before .before .before .before .before .before .before .before .args .replies)) ≤ 655350)
+lies c = (in-replies (c .before .before .before .before .before .before .before .before .before .before .before .loop .inv) (c .before .before .before .before .before .before .before .before .before .before .loop-test .taken), c .before .before .before .before .before .before .before .before .before .before .before .before .before .before .before .before .before .before .pre .5)
 
 add-verdict-on : tie.Need-add-verdict-on Inv-loop μ-loop
 add-verdict-on c = let (within, few) = lies c in omega arith
@@ -63,47 +60,38 @@ part-verdict-on-end : tie.Need-part-verdict-on-end Inv-loop μ-loop
 part-verdict-on-end c = let (within, few) = lies c in omega arith
 
 verdict-on-requires : tie.Need-verdict-on-requires Inv-loop μ-loop
-verdict-on-requires c κs = six-bytes (c .before .before .before .before .before .before .before .before .before .before .before .before .before .before .before .loop .inv) (c .before .before .before .before .before .before .before .before .before .before .before .before .before .before .loop-test .taken)
+verdict-on-requires c κs = six-bytes (c .before .before .before .before .before .before .before .before .before .before .before .before .loop .inv) (c .before .before .before .before .before .before .before .before .before .before .before .loop-test .taken)
 
 slice-write-verdicts : tie.Need-slice-write-verdicts Inv-loop μ-loop
-slice-write-verdicts c = c .before .before .before .before .before .before .before .before .before .before .before .before .before .before .before .loop-test .taken
+slice-write-verdicts c = c .before .before .before .before .before .before .before .before .before .before .before .before .loop-test .taken
 
 add-j : tie.Need-add-j Inv-loop μ-loop
 add-j c = let (within, few) = lies (c .before .before) in omega arith
 
 loop-less : tie.Need-loop-less Inv-loop μ-loop
 loop-less c =
-    let l = c .before .before .before .before .before .before .before .before .before .before .before .before .before .before .before .loop-test .taken in
-    omega (arith, length-set (c .before .before .before .before .before .before .before .before .before .before .before .before .before .before .before .before .loop .verdicts) (c .before .before .before .before .before .before .before .before .before .before .before .before .before .before .before .before .loop .j) (c .verdict-on .result))
+    let l = c .before .before .before .before .before .before .before .before .before .before .before .before .before .loop in
+    let t = c .before .before .before .before .before .before .before .before .before .before .before .before .loop-test .taken in
+    omega (arith, length-set (l .verdicts) (l .j) (c .verdict-on .result))
 
 loop-again : tie.Need-loop-again Inv-loop μ-loop
 loop-again c =
-    let l = c .before .before .before .before .before .before .before .before .before .before .before .before .before .before .before .before in
-    let u = c .before .before .before .before .before .before .before .before .before .before .before .before .before .before .u32-at .ensures in
-    let r = next-reply (l .loop .inv) (c .before .before .before .before .before .before .before .before .before .before .before .before .before .before .before .loop-test .taken) in
-    judging-next (l .loop .inv) (c .before .before .before .before .before .before .before .before .before .before .before .before .before .before .before .loop-test .taken) _ _ (ap (λ (k : ℕ). k + 1) u) (c .before .before .before .before .before .before .before .before .before .before .reach .ensures) (c .verdict-on .ensures)
+    judging-next (c .before .before .before .before .before .before .before .before .before .before .before .before .before .loop .inv) (c .before .before .before .before .before .before .before .before .before .before .before .before .loop-test .taken) _ _ (ap (λ (k : ℕ). k + 1) (c .before .before .before .before .before .before .before .before .before .before .before .u32-at .ensures)) (c .before .before .before .before .before .before .before .before .reach .ensures) (c .verdict-on .ensures)
 
 reach-requires-2 : tie.Need-reach-requires-2 Inv-loop μ-loop
-reach-requires-2 c κs =
-    let i = c .before .before .before .before .loop .inv in
-    (i .there, not-past i, omega arith)
+reach-requires-2 c κs = let i = c .before .before .before .loop .inv in (c .before .before .before .before .before .before .before .before .before .before .pre .0, i .there, not-past i, omega arith)
 
 returns : tie.Need-returns Inv-loop μ-loop
-returns c =
-    let i = c .before .before .before .before .before .before .before .before .before .before .before .loop .inv in
-    (known-there (c .before .before .before .before .before .before .reach2 .ensures), judging-end i (c .before .before .before .before .before .before .before .before .before .before .loop-test .left))
+returns c = (known-there (c .before .before .before .before .reach2 .ensures), judging-end (c .before .before .before .before .before .before .before .before .loop .inv) (c .before .before .before .before .before .before .before .loop-test .left))
 
 same-length : tie.Need-same-length Inv-loop μ-loop
-same-length c = long (returns c .0) ∙ sym (long (c .before .before .before .before .before .before .before .before .before .before .before .before .before .before .before .before .before .before .before .pre .0 .there .known))
+same-length c = long (returns c .0) ∙ sym (long (c .before .before .before .before .before .before .before .before .before .before .before .before .before .before .before .pre .1 .there .known))
 
 same-length-2 : tie.Need-same-length-2 Inv-loop μ-loop
-same-length-2 c = sixteen (returns c .0) ∙ sym (sixteen (c .before .before .before .before .before .before .before .before .before .before .before .before .before .before .before .before .before .before .before .pre .0 .there .known))
+same-length-2 c = long-firsts (returns c .0) ∙ sym (long-firsts (c .before .before .before .before .before .before .before .before .before .before .before .before .before .before .before .pre .1 .there .known))
 
 same-length-3 : tie.Need-same-length-3 Inv-loop μ-loop
-same-length-3 c = sixteen-held (returns c .0) ∙ sym (sixteen-held (c .before .before .before .before .before .before .before .before .before .before .before .before .before .before .before .before .before .before .before .pre .0 .there .known))
-
-same-length-4 : tie.Need-same-length-4 Inv-loop μ-loop
-same-length-4 c = c .before .before .before .before .before .before .before .before .before .before .before .loop .inv .count ∙ sym (c .before .before .before .before .before .before .before .before .before .before .before .before .before .before .before .before .before .before .before .pre .3)
+same-length-3 c = c .before .before .before .before .before .before .before .before .loop .inv .count ∙ sym (c .before .before .before .before .before .before .before .before .before .before .before .before .before .before .before .pre .4)
 
 pub judge-records-spec : {M : Type 1} → statement M
 judge-records-spec =
@@ -130,5 +118,4 @@ judge-records-spec =
     same-length
     same-length-2
     same-length-3
-    same-length-4
     returns)

@@ -1,12 +1,10 @@
 use borrow.Author.Needs.{needs}
-use Rattle.judge.proofs.Points.{point-kept, point-reached}
+use Rattle.judge.proofs.Points.{point-reached}
 use Rattle.judge.proofs.replies.reach.Statement.{statement}
 use Rattle.judge.proofs.replies.reach.Tie as tie
 
 returns : tie.Need-returns
-returns c =
-    let pre = c .before .before .before .before .before .before .before .before .before .pre in
-    point-kept _ (pre .0) (pre .1) (c .if1 .taken)
+returns c = search needs
 
 advance-requires : tie.Need-advance-requires
 advance-requires c κs = search needs
@@ -20,20 +18,10 @@ same-length c = search needs
 same-length-2 : tie.Need-same-length-2
 same-length-2 c = search needs
 
-same-length-3 : tie.Need-same-length-3
-same-length-3 c = search needs
-
 returns-2 : tie.Need-returns-2
-returns-2 c = point-reached _ (c .before .before .before .before .before .before .before .before .advance .ensures) (c .alarms-in .ensures)
+returns-2 c = point-reached (c .before .before .before .before .before .before .before .before .before .before .before .before .before .before .before .before .before .pre .0) (c .before .before .before .before .before .before .advance .ensures) (c .alarms-in .ensures)
 
 pub reach-spec : {M : Type 1} → statement M
 reach-spec =
     tie.close
-    (tie.spec
-    returns
-    advance-requires
-    alarms-in-requires
-    same-length
-    same-length-2
-    same-length-3
-    returns-2)
+    (tie.spec returns advance-requires alarms-in-requires same-length same-length-2 returns-2)
