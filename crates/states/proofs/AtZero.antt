@@ -10,18 +10,13 @@ use lib.ListN.{getD, length, List·getD-eq-default}
 use lib.Seq.{ext-getD}
 use borrow.Author.Tests.{eq-eqb, ne-eqb}
 use Rattle.lists.specs.Lists.{tabulate}
-use Rattle.lists.proofs.Bools.{refuted, bool-ext, below?, equal?, length-tabulate, getD-tabulate}
-use Rattle.rules.specs.Evaluation.{status}
-use Rattle.flags.specs.declared.Flag.the-variants.{Clear}
+use Rattle.lists.proofs.Bools.{bool-ext, below?, equal?, length-tabulate, getD-tabulate}
 use Rattle.fillings.specs.PossibleStates.{has, Moves, found, next, start}
-use Rattle.fillings.specs.Flags.{flag}
 use Rattle.fillings.proofs.Next.{next-length, reached, by-restart}
-use Rattle.states.specs.Records.{at, statesOf, wordOf, wordsOf, ruleWords, recordWith}
+use Rattle.states.specs.Records.{statesOf, wordOf, wordsOf, ruleWords, recordWith}
 use Rattle.states.specs.inner.Words.{Same}
-use Rattle.states.proofs.Packing.{at-wordsOf, states-words, same-sets}
-use Rattle.states.proofs.SetFlags.{status-clear}
-use Rattle.states.proofs.RuleWords.{record-length, record-at}
-use Rattle.states.proofs.EachRule.{word-of}
+use Rattle.states.proofs.Packing.{states-words, same-sets}
+use Rattle.states.proofs.RuleWords.{part, record-length, record-at}
 
 -- The words of state 0 alone are 1, 0, 0, 0, 0.
 pub zero-words : (w : List ℕ) (r : Bool) → Same w (1 ∷ 0 ∷ 0 ∷ 0 ∷ 0 ∷ []) r → r ≡ true → w ≡ wordsOf (start 0)
@@ -82,7 +77,7 @@ same-rule ws v i l e =
     let q : 5 * i + k % 5 ≡ k = omega arith in
     ap (λ (b : Bool). cond b (getD v (k % 5) 0) (getD ws k 0)) (eq-eqb (k / 5) i d)
     ∙ ap (λ (x : List ℕ). getD x (k % 5) 0) e
-    ∙ word-of ws i (k % 5) (omega arith)
+    ∙ part ws (5 * i) (k % 5) (omega arith)
     ∙ ap (λ (x : ℕ). getD ws x 0) q)
     (λ n. ap (λ (b : Bool). cond b (getD v (k % 5) 0) (getD ws k 0)) (ne-eqb (k / 5) i n))
     (equal? (k / 5) i))
@@ -94,14 +89,3 @@ pub zero-stays : (ws w : List ℕ) (i m : ℕ) (trip clear alone : Bool) → len
 zero-stays ws w i m true clear alone l pos fits e z r = absurd (let n : _≡_ {A = ℕ} 0 1 = cc in omega arith)
 zero-stays ws w i m false clear alone l pos fits e z r =
     sym (same-rule ws (wordsOf (next m (found false clear) (statesOf (ruleWords ws i) m))) i l (zero-kept (ruleWords ws i) m (found false clear) (sym r ∙ z e) pos fits refl refl))
-
--- Its status is clear.
-pub zero-clear : (ws w : List ℕ) (i m : ℕ) (trip alone : Bool) → 0 < m → m ≤ 256 → (not trip && alone) ≡ true → (alone ≡ true → w ≡ wordsOf (start 0)) → w ≡ ruleWords ws i
-    → Clear ≡ flag m (status m) (statesOf (ruleWords ws i) m)
-zero-clear ws w i m true alone pos fits e z r = absurd (let n : _≡_ {A = ℕ} 0 1 = cc in omega arith)
-zero-clear ws w i m false alone pos fits e z r =
-    status-clear (ruleWords ws i) m fits pos
-    (ap (λ (v : List ℕ). at v m) (sym r ∙ z e)
-    ∙ at-wordsOf (start 0) m (omega arith)
-    ∙ sym (has-start m m)
-    ∙ refuted (has (start m) m) (λ t. let n : m ≡ 0 = start-zero m m t in omega arith))

@@ -78,7 +78,7 @@ pub bit-pow-other : (k r : ℕ) → (r ≡ k → ⊥) → bit (2 ^ k) r ≡ fals
 bit-pow-other k r n =
     ⊎-elim (bit-pow-below k r) (λ h. bit-pow-above k r (⊎-elim (λ e. absurd (n (sym e))) (λ g. g) (eq-or-lt-of-le h))) (below? r k)
 
-pub bit-top : (k w : ℕ) → 2 ^ k ≤ w → w < 2 ^ suc k → bit w k ≡ true
+bit-top : (k w : ℕ) → 2 ^ k ≤ w → w < 2 ^ suc k → bit w k ≡ true
 unfolding bit
 bit-top k w l h =
     let e : 2 ^ suc k ≡ 2 ^ k * 2 = pow-suc 2 k in

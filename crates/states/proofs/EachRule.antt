@@ -1,23 +1,19 @@
 -- A record whose rules are moved one after the other.
-use Prim.Native.Nat.{ℕ, zero, suc, _+_, _*_, _/_, _%_, _≤_, _<_}
-use mathlib.Core.Path.{_≡_, refl, ap, ap₂, sym, _∙_, subst}
-use mathlib.Core.List.{List, []}
+use Prim.Native.Nat.{ℕ, suc, _+_, _*_, _/_, _%_, _≤_, _<_}
+use mathlib.Core.Path.{_≡_, ap, ap₂, sym, _∙_}
+use mathlib.Core.List.{List}
 use mathlib.Core.Bool.{Bool, true, false, cond, _&&_, and-true, and-false}
 use mathlib.Core.Logic.{_⊎_, ⊎-elim}
 use native.Mathlib.Omega.{arith}
 use native.Mathlib.Nat.{eq-or-lt-of-le}
 use native.Mathlib.Numerals.{add-one}
 use lib.Dec.{eqb, ltb}
-use lib.ListN.{getD, length, take, drop}
-use lib.Seq.{getD-take, getD-drop, ext-getD}
+use lib.ListN.{getD, length}
+use lib.Seq.{ext-getD}
 use borrow.Author.Tests.{eq-eqb, ne-eqb, lt-ltb, le-ltb}
 use Rattle.lists.proofs.Bools.{below?, equal?}
-use Rattle.rules.specs.Evaluation.{status}
-use Rattle.flags.specs.declared.Flag.{Flag}
-use Rattle.fillings.specs.Flags.{flag}
-use Rattle.fillings.specs.PossibleStates.{Moves, next}
-use Rattle.states.specs.Records.{statesOf, wordsOf, ruleWords, recordWith}
-use Rattle.states.proofs.RuleWords.{part-length, record-length, record-at}
+use Rattle.states.specs.Records.{ruleWords, recordWith}
+use Rattle.states.proofs.RuleWords.{part, part-length, record-length, record-at}
 
 -- Two records are the same if they change alike where they are compared.
 pub record-same : (c d : ℕ → Bool) (new old : ℕ → List ℕ) (ws vs : List ℕ)
@@ -37,18 +33,15 @@ record-kept c new ws l n =
     let h : k < 80 = omega (arith, record-length c new ws) in
     record-at c new ws k h ∙ ap (λ (b : Bool). cond b (getD (new (k / 5)) (k % 5) 0) (getD ws k 0)) (n (k / 5) (omega arith)))
 
-pub word-of : (ws : List ℕ) (i j : ℕ) → j < 5 → getD (ruleWords ws i) j 0 ≡ getD ws (5 * i + j) 0
-word-of ws i j h = getD-take 5 (drop (5 * i) ws) j 0 h ∙ getD-drop (5 * i) ws j 0
-
 record-word : (c : ℕ → Bool) (new : ℕ → List ℕ) (ws : List ℕ) (i j : ℕ) → i < 16 → j < 5
     → getD (ruleWords (recordWith c new ws) i) j 0 ≡ cond (c i) (getD (new i) j 0) (getD (ruleWords ws i) j 0)
 record-word c new ws i j h g =
     let q : (5 * i + j) / 5 ≡ i = omega arith in
     let m : (5 * i + j) % 5 ≡ j = omega arith in
-    word-of (recordWith c new ws) i j g
+    part (recordWith c new ws) (5 * i) j g
     ∙ record-at c new ws (5 * i + j) (omega arith)
     ∙ ap₂ (λ (a b : ℕ). cond (c a) (getD (new a) b 0) (getD ws (5 * i + j) 0)) q m
-    ∙ ap (cond (c i) (getD (new i) j 0)) (sym (word-of ws i j g))
+    ∙ ap (cond (c i) (getD (new i) j 0)) (sym (part ws (5 * i) j g))
 
 rule-length : (c : ℕ → Bool) (new : ℕ → List ℕ) (ws : List ℕ) (i : ℕ) → i < 16 → length (ruleWords (recordWith c new ws) i) ≡ 5
 rule-length c new ws i h = part-length (recordWith c new ws) (5 * i) (omega (arith, record-length c new ws))
@@ -105,29 +98,10 @@ done-next i m new ws =
     alike x n =
         ⊎-elim (λ h. lt-ltb x i h ∙ sym (lt-ltb x (suc i) (omega arith))) (λ h. le-ltb x i h ∙ sym (le-ltb x (suc i) (⊎-elim (λ e. absurd (n (sym e))) (λ g. g) (eq-or-lt-of-le h)))) (below? x i)
 
--- A rule that is done has the words that it will have.
-pub done-read : (k j : ℕ) (m : ℕ → Bool) (new : ℕ → List ℕ) (ws : List ℕ) → j < k → j < 16
-    → ruleWords (recordWith (done k m) new ws) j ≡ ruleWords (recordWith m new ws) j
-done-read k j m new ws h g =
-    ext-getD 0 _ _ (rule-length (done k m) new ws j g ∙ sym (rule-length m new ws j g))
-    (λ p l.
-    let l′ : p < 5 = omega (arith, rule-length (done k m) new ws j g) in
-    record-word (done k m) new ws j p g l′
-    ∙ ap (λ (b : Bool). cond (b && m j) (getD (new j) p 0) (getD (ruleWords ws j) p 0)) (lt-ltb j k h)
-    ∙ sym (record-word m new ws j p g l′))
-
 pub done-end : (m : ℕ → Bool) (new : ℕ → List ℕ) (ws : List ℕ) → recordWith (done 16 m) new ws ≡ recordWith m new ws
 done-end m new ws =
     record-same (done 16 m) m new new ws ws
     (λ k l. ap (λ (b : Bool). cond (b && m (k / 5)) (getD (new (k / 5)) (k % 5) 0) (getD ws k 0)) (lt-ltb (k / 5) 16 (omega arith)))
-
--- The flag of a rule whose words were stored.
-pub stored-flag : (ws out v : List ℕ) (i m : ℕ) (f : Flag) → i < 16 → length v ≡ 5 → out ≡ recordWith (λ j. eqb j i) (λ j. v) ws
-    → f ≡ flag m (status m) (statesOf v m) → f ≡ flag m (status m) (statesOf (ruleWords out i) m)
-stored-flag ws out v i m f h l o e =
-    e
-    ∙ ap (λ (x : List ℕ). flag m (status m) (statesOf x m))
-    (sym (ap (λ (x : List ℕ). ruleWords x i) o ∙ rule-new (λ j. eqb j i) (λ j. v) ws i h l (eq-eqb i i refl)))
 
 -- One rule that stays as it is, and one that moves.
 pub rule-stays : (b : Bool) (new : ℕ → List ℕ) (ws : List ℕ) (i : ℕ) → length ws ≡ 80 → b ≡ false → ws ≡ recordWith (λ j. eqb j i && b) new ws
@@ -168,9 +142,6 @@ module _ (m : ℕ → Bool) (new : ℕ → List ℕ) (ws₀ : List ℕ) where
         ∙ done-next i m new ws₀
         ∙ ap (λ (x : ℕ). recordWith (done x m) new ws₀) (sym (add-one i));
   }
-
-  pub moving-done : (ws : List ℕ) (i j : ℕ) → Moving m new ws₀ ws i → j < i → j < 16 → ruleWords ws j ≡ ruleWords (recordWith m new ws₀) j
-  moving-done ws i j g h l = ap (λ (x : List ℕ). ruleWords x j) (g .holds) ∙ done-read i j m new ws₀ h l
 
   pub moving-end : (ws : List ℕ) (i : ℕ) → Moving m new ws₀ ws i → 16 ≤ i → ws ≡ recordWith m new ws₀
   moving-end ws i g h =

@@ -3,27 +3,45 @@ use Prim.Native.Nat.{ℕ, zero, suc, _+_, _*_, _^_, _-_, _/_, _%_, _≤_, _<_}
 use mathlib.Core.Path.{_≡_, refl, ap, ap₂, sym, _∙_, subst}
 use mathlib.Core.List.{List, _∷_}
 use mathlib.Core.Bool.{Bool, true, false, cond, _&&_, _||_, or-false}
-use mathlib.Core.Logic.{_⊎_, inl, inr, ⊎-elim}
+use mathlib.Core.Logic.{_⊎_, ⊎-elim}
 use native.Mathlib.Omega.{arith}
 use native.Mathlib.Nat.{eq-or-lt-of-le}
 use native.Mathlib.Numerals.{add-one}
-use lib.ListN.{getD, length, set, length-set, replicate}
+use lib.ListN.{getD, length, set, replicate}
 use lib.Dec.{T, ltb, eqb}
 use borrow.Author.Tests.{lt-ltb, le-ltb, eq-eqb, ne-eqb, eqb-true, eqb-false}
-use borrow.Author.Count.{below-more}
-use lib.Seq.{getD-set-same, getD-set-other}
+use lib.Seq.{getD-set-other}
 use lib.Bits.{bitOr}
 use Rattle.lists.specs.Lists.{someBelow}
 use Rattle.lists.proofs.Bools.{is-true, refuted, below?, equal?, some-intro, some-elim}
+use Rattle.lists.proofs.Laying.{Laying, laying-start, laying-next}
 use Rattle.states.specs.Records.{bit, at}
 use Rattle.states.specs.inner.Words.{belowWord, Below, Up, Raised, With, withWord}
 use Rattle.states.proofs.Bits.{bit-mod, bit-mod-above, bit-up, bit-up-first, bit-or, bit-pow-same, bit-pow-other, bit-some, bit-zero}
 
--- word j of the words w a place up
-abbrev pub upWord : List ℕ → ℕ → ℕ
-upWord w j = getD w j 0 % 2 ^ 63 * 2 + getD (0 ∷ w) j 0 / 2 ^ 63
+-- The words below i are changed by a function of their place; the others are as they came.
+pub record Changed (f : ℕ → ℕ → ℕ) (w₀ w : List ℕ) (i : ℕ) : Type 0 where
+  pub laid : Laying 0 5 (λ j. f j (getD w₀ j 0)) w i
+  pub rest : (j : ℕ) → i ≤ j → getD w j 0 ≡ getD w₀ j 0
 
-pub up-of : (w r : List ℕ) → ((j : ℕ) → getD w j 0 < 2 ^ 64) → ((j : ℕ) → j < 5 → getD r j 0 ≡ upWord w j) → Up w r
+module _ (f : ℕ → ℕ → ℕ) (w₀ : List ℕ) where
+  pub changed-start : length w₀ ≡ 5 → Changed f w₀ w₀ 0
+  changed-start l = record { laid = laying-start 0 5 _ w₀ l; rest = λ j h. refl }
+
+  pub changed-next : (w : List ℕ) (i x : ℕ) → i < 5 → Changed f w₀ w i → x ≡ f i (getD w i 0) → Changed f w₀ (set w i x) (i + 1)
+  changed-next w i x h c e = record {
+    laid = laying-next 0 5 _ x (c .laid) h (e ∙ ap (f i) (c .rest i (omega arith)));
+    rest = λ j l. getD-set-other w i j x 0 (λ d. omega arith) ∙ c .rest j (omega arith);
+  }
+
+  pub changed-end : (w : List ℕ) (i : ℕ) → 5 ≤ i → Changed f w₀ w i → (j : ℕ) → j < 5 → getD w j 0 ≡ f j (getD w₀ j 0)
+  changed-end w i h c j l = c .laid .done j (omega arith)
+
+-- word j of the words w, which is x, a place up
+abbrev pub upWord : List ℕ → ℕ → ℕ → ℕ
+upWord w j x = x % 2 ^ 63 * 2 + getD (0 ∷ w) j 0 / 2 ^ 63
+
+up-of : (w r : List ℕ) → ((j : ℕ) → getD w j 0 < 2 ^ 64) → ((j : ℕ) → j < 5 → getD r j 0 ≡ upWord w j (getD w j 0)) → Up w r
 unfolding at
 up-of w r f e = record {
   first = ap (λ (x : ℕ). bit x 0) (e 0 (omega arith)) ∙ bit-up-first (getD w 0 0) 0 (omega arith) ∙ bit-zero 63;
@@ -50,54 +68,23 @@ up-of w r f e = record {
 
 -- the words w₀, of which those below i have been moved a place up: c is what word i - 1 hands on
 pub record UpTo (w₀ w : List ℕ) (i c : ℕ) : Type 0 where
-  pub within : i ≤ 5
-  pub long : length w ≡ 5
+  pub changed : Changed (upWord w₀) w₀ w i
   pub small : c < 2
   pub carry : c ≡ getD (0 ∷ w₀) i 0 / 2 ^ 63
-  pub done : (j : ℕ) → j < i → getD w j 0 ≡ upWord w₀ j
-  pub rest : (j : ℕ) → i ≤ j → getD w j 0 ≡ getD w₀ j 0
 
 pub up-start : (w : List ℕ) → length w ≡ 5 → UpTo w w 0 0
-up-start w l = record { within = omega arith; long = l; small = omega arith; carry = refl; done = λ j h. absurd (omega arith); rest = λ j h. refl }
+up-start w l = record { changed = changed-start (upWord w) w l; small = omega arith; carry = refl }
 
 pub up-more : (w₀ w : List ℕ) (i c : ℕ) → ((j : ℕ) → getD w₀ j 0 < 2 ^ 64) → i < 5 → UpTo w₀ w i c
     → UpTo w₀ (set w i (getD w i 0 % 2 ^ 63 * 2 + c)) (i + 1) (getD w i 0 / 2 ^ 63)
 up-more w₀ w i c f h u = record {
-  within = omega arith;
-  long = length-set w i v ∙ u .long;
-  small = omega (arith, f i, u .rest i (omega arith));
-  carry = ap (λ (x : ℕ). x / 2 ^ 63) (u .rest i (omega arith)) ∙ ap (λ (x : ℕ). getD (0 ∷ w₀) x 0 / 2 ^ 63) (sym (add-one i));
-  done = below-more _ i (λ j l. getD-set-other w i j v 0 (λ e. omega arith) ∙ u .done j l) (getD-set-same w i v 0 (omega (arith, u .long)) ∙ ap (λ (x : ℕ). x % 2 ^ 63 * 2 + c) (u .rest i (omega arith)) ∙ ap (λ (x : ℕ). getD w₀ i 0 % 2 ^ 63 * 2 + x) (u .carry));
-  rest = λ j l. getD-set-other w i j v 0 (λ e. omega arith) ∙ u .rest j (omega arith);
+  changed = changed-next (upWord w₀) w₀ w i _ h (u .changed) (ap (λ (x : ℕ). getD w i 0 % 2 ^ 63 * 2 + x) (u .carry));
+  small = omega (arith, f i, u .changed .rest i (omega arith));
+  carry = ap (λ (x : ℕ). x / 2 ^ 63) (u .changed .rest i (omega arith)) ∙ ap (λ (x : ℕ). getD (0 ∷ w₀) x 0 / 2 ^ 63) (sym (add-one i));
 }
-  where
-    v : ℕ
-    v = getD w i 0 % 2 ^ 63 * 2 + c
 
 pub up-end : (w₀ w : List ℕ) (i c : ℕ) → ((j : ℕ) → getD w₀ j 0 < 2 ^ 64) → 5 ≤ i → UpTo w₀ w i c → Up w₀ w
-up-end w₀ w i c f h u = up-of w₀ w f (λ j l. u .done j (omega arith))
-
--- The words below i are changed by a function of their place; the others are as they came.
-pub record Changed (f : ℕ → ℕ → ℕ) (w₀ w : List ℕ) (i : ℕ) : Type 0 where
-  pub within : i ≤ 5
-  pub long : length w ≡ 5
-  pub done : (j : ℕ) → j < i → getD w j 0 ≡ f j (getD w₀ j 0)
-  pub rest : (j : ℕ) → i ≤ j → getD w j 0 ≡ getD w₀ j 0
-
-module _ (f : ℕ → ℕ → ℕ) (w₀ : List ℕ) where
-  pub changed-start : length w₀ ≡ 5 → Changed f w₀ w₀ 0
-  changed-start l = record { within = omega arith; long = l; done = λ j h. absurd (omega arith); rest = λ j h. refl }
-
-  pub changed-next : (w : List ℕ) (i x : ℕ) → i < 5 → Changed f w₀ w i → x ≡ f i (getD w i 0) → Changed f w₀ (set w i x) (i + 1)
-  changed-next w i x h c e = record {
-    within = omega arith;
-    long = length-set w i x ∙ c .long;
-    done = below-more _ i (λ j l. getD-set-other w i j x 0 (λ d. omega arith) ∙ c .done j l) (getD-set-same w i x 0 (omega (arith, c .long)) ∙ e ∙ ap (f i) (c .rest i (omega arith)));
-    rest = λ j l. getD-set-other w i j x 0 (λ d. omega arith) ∙ c .rest j (omega arith);
-  }
-
-  pub changed-end : (w : List ℕ) (i : ℕ) → 5 ≤ i → Changed f w₀ w i → (j : ℕ) → j < 5 → getD w j 0 ≡ f j (getD w₀ j 0)
-  changed-end w i h c j l = c .done j (omega arith)
+up-end w₀ w i c f h u = up-of w₀ w f (changed-end (upWord w₀) w₀ w i h (u .changed))
 
 -- The bits of words without those from t on.
 pub below-bits : (w r : List ℕ) (t : ℕ) → ((j : ℕ) → j < 5 → getD r j 0 ≡ belowWord t j (getD w j 0)) → Below w t r

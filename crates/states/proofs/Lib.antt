@@ -11,8 +11,6 @@ pub mod SetFlags
 pub mod Tops
 pub mod RuleSteps
 pub mod RuleFlagLaws
-pub mod OneRule
-pub mod Gaps
 pub mod OffRules
 pub mod Tracking
 pub mod ValidWords

@@ -1,12 +1,12 @@
 -- What a seen tick and unseen ticks make of one rule, as code computes it.
 use Prim.Native.Nat.{ℕ, zero, suc, _+_, _≤_, _<_}
 use mathlib.Core.Path.{_≡_, refl, ap, ap₂, sym, _∙_}
-use mathlib.Core.List.{List, [], _∷_}
+use mathlib.Core.List.{List}
 use mathlib.Core.Bool.{Bool, true, false, cond, _&&_, and-false}
 use native.Mathlib.Omega.{arith}
 use lib.Dec.{ltb, eqb}
-use lib.ListN.{length, getD}
-use borrow.Author.Tests.{lt-ltb, le-ltb, eq-eqb, ne-eqb}
+use lib.ListN.{length}
+use borrow.Author.Tests.{lt-ltb, eq-eqb, ne-eqb}
 use Rattle.rules.specs.declared.Row.{Row}
 use Rattle.rules.specs.declared.Setting.{Setting}
 use Rattle.rules.specs.declared.Readings.{Readings}
@@ -14,9 +14,9 @@ use Rattle.rules.specs.Table.{rowAt}
 use Rattle.rules.specs.Evaluation.{trips, clears, top, evaluated, evaluations}
 use Rattle.fillings.specs.PossibleStates.{found, next, unseenTimes}
 use Rattle.states.specs.Records.{statesOf, wordsOf, ruleWords, recordWith}
-use Rattle.states.proofs.EachRule.{rule-moves, Moving, moving-read, moving-next, moving-done, moving-end}
+use Rattle.states.proofs.EachRule.{rule-moves, Moving, moving-read, moving-next, moving-end}
 use Rattle.limits.specs.Limits.{settingOf}
-use Rattle.states.specs.Steps.{movesBy, movesAt, seenBy, seenWords, afterSeenRule, afterSeen, evaluationsOf, movesBetween, unseenWords, afterUnseen}
+use Rattle.states.specs.Steps.{movesBy, movesAt, seenBy, seenWords, afterSeen, evaluationsOf, movesBetween, unseenWords, afterUnseen}
 
 pub positive : (t : ℕ) → (t ≡ 0 → ⊥) → 0 < t
 positive zero n = absurd (n refl)
@@ -72,12 +72,6 @@ pub unseen-read : (first last : ℕ) (s : Setting) (i : ℕ) (ws vs : List ℕ) 
 unseen-read first last s i ws vs e =
     ap (λ (x : List ℕ). wordsOf (unseenTimes (evaluationsOf first last i) (top (s .time)) (rowAt i .recovers) (statesOf x (top (s .time))))) e
 
--- One rule of a record.
-pub rule-seen : (idle tick i : ℕ) (r : Readings) (s : Setting) (ws out : List ℕ) (row : Row) → length ws ≡ 80 → i < 16 → out ≡ afterSeenRule row s idle tick r i ws
-    → out ≡ recordWith (λ j. eqb j i && movesBy row tick s) (λ j. seenBy row idle r s i ws) ws
-unfolding afterSeenRule
-rule-seen idle tick i r s ws out row l h e = rw (eq-eqb (length ws) 80 l, lt-ltb i 16 h) at e
-
 -- The loop over the rules at a seen tick.
 module _ (ss : List Setting) (idle tick : ℕ) (r : Readings) (ws₀ : List ℕ) where
   abbrev pub Seeing : List ℕ → ℕ → Type 0
@@ -99,12 +93,6 @@ module _ (ss : List Setting) (idle tick : ℕ) (r : Readings) (ws₀ : List ℕ)
   pub seeing-end : (ws : List ℕ) (i : ℕ) → Seeing ws i → 16 ≤ i → ws ≡ afterSeen ss idle tick r ws₀
   seeing-end ws i g h =
       seen-done ws (g .long) (moving-end (λ j. movesAt tick (settingOf ss j) j) (λ j. seenWords idle r (settingOf ss j) j ws₀) ws₀ ws i g h)
-
-  -- a rule that has moved has the words of the end
-  pub seeing-done : (ws : List ℕ) (i j : ℕ) → Seeing ws i → j < i → j < 16 → ruleWords ws j ≡ ruleWords (afterSeen ss idle tick r ws₀) j
-  seeing-done ws i j g h l =
-      moving-done (λ k. movesAt tick (settingOf ss k) k) (λ k. seenWords idle r (settingOf ss k) k ws₀) ws₀ ws i j g h l
-      ∙ ap (λ (x : List ℕ). ruleWords x j) (seen-done _ (g .long) refl)
 
   pub seen-kept : (length ws₀ ≡ 80 → ⊥) → ws₀ ≡ afterSeen ss idle tick r ws₀
   unfolding afterSeen

@@ -1,8 +1,8 @@
 -- The words of one rule within the record: read, stored, and what a record holds at each place.
 use Prim.Native.Nat.{ℕ, zero, suc, _+_, _*_, _/_, _%_, _≤_, _<_}
-use mathlib.Core.Path.{_≡_, refl, ap, ap₂, sym, _∙_, subst}
-use mathlib.Core.List.{List, [], _∷_}
-use mathlib.Core.Bool.{Bool, true, false, cond, _&&_, _||_}
+use mathlib.Core.Path.{_≡_, refl, ap, sym, _∙_}
+use mathlib.Core.List.{List}
+use mathlib.Core.Bool.{Bool, cond}
 use mathlib.Core.Logic.{_⊎_, ⊎-elim}
 use native.Mathlib.Omega.{arith}
 use native.Mathlib.Numerals.{add-one}
@@ -10,7 +10,7 @@ use lib.Dec.{eqb}
 use lib.ListN.{getD, length, set, take, drop, length-set, length-take, length-drop}
 use lib.Seq.{getD-take, getD-drop, getD-set-same, getD-set-other, ext-getD}
 use borrow.Author.Tests.{eq-eqb, ne-eqb}
-use borrow.Author.Count.{below-more}
+use Rattle.lists.specs.Lists.{tabulate}
 use Rattle.lists.proofs.Bools.{equal?, length-tabulate, getD-tabulate}
 use Rattle.states.specs.Records.{ruleWords, recordWith}
 
@@ -20,34 +20,10 @@ part ws k j h = getD-take 5 (drop k ws) j 0 h ∙ getD-drop k ws j 0
 pub part-length : (ws : List ℕ) (k : ℕ) → k + 5 ≤ length ws → length (take 5 (drop k ws)) ≡ 5
 part-length ws k h = simp (length-take, length-drop) (omega arith)
 
--- The loop that reads the words of rule i: those below j are read.
-pub record Loading (ws : List ℕ) (i : ℕ) (w : List ℕ) (j : ℕ) : Type 0 where
-  pub rule : i < 16
-  pub record-long : length ws ≡ 80
-  pub within : j ≤ 5
-  pub long : length w ≡ 5
-  pub read : (p : ℕ) → p < j → getD w p 0 ≡ getD ws (5 * i + p) 0
-
-pub loading-start : (ws : List ℕ) (i : ℕ) (w : List ℕ) → length ws ≡ 80 → i < 16 → length w ≡ 5 → Loading ws i w 0
-loading-start ws i w l h m = record { rule = h; record-long = l; within = omega arith; long = m; read = λ p g. absurd (omega arith) }
-
-pub loading-next : (ws : List ℕ) (i : ℕ) (w : List ℕ) (j : ℕ) → Loading ws i w j → j < 5 → Loading ws i (set w j (getD ws (5 * i + j) 0)) (j + 1)
-loading-next ws i w j g h = record {
-  rule = g .rule;
-  record-long = g .record-long;
-  within = omega arith;
-  long = length-set w j x ∙ g .long;
-  read = below-more _ j (λ p l. getD-set-other w j p x 0 (λ e. omega arith) ∙ g .read p l) (getD-set-same w j x 0 (omega (arith, g .long)));
-}
-  where
-    x : ℕ
-    x = getD ws (5 * i + j) 0
-
-pub loading-end : (ws : List ℕ) (i : ℕ) (w : List ℕ) (j : ℕ) → Loading ws i w j → 5 ≤ j → w ≡ ruleWords ws i
-loading-end ws i w j g h =
-    let l : length (ruleWords ws i) ≡ 5 = part-length ws (5 * i) (omega (arith, g .rule, g .record-long)) in
-    ext-getD 0 w (ruleWords ws i) (g .long ∙ sym l) (λ p d.
-    let e : p < 5 = omega (arith, g .long) in g .read p (omega arith) ∙ sym (part ws (5 * i) p e))
+pub words-read : (ws : List ℕ) (i : ℕ) → length ws ≡ 80 → i < 16 → tabulate 5 (λ j. getD ws (5 * i + j) 0) ≡ ruleWords ws i
+words-read ws i l h =
+    ext-getD 0 (tabulate 5 (λ j. getD ws (5 * i + j) 0)) (ruleWords ws i) (sym (part-length ws (5 * i) (omega arith)))
+    (λ j g. getD-tabulate 5 (λ j. getD ws (5 * i + j) 0) 0 j g ∙ sym (part ws (5 * i) j g))
 
 -- What a record with new words holds at each place.
 pub record-length : (c : ℕ → Bool) (new : ℕ → List ℕ) (ws : List ℕ) → length (recordWith c new ws) ≡ 80

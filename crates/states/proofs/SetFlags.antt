@@ -1,8 +1,8 @@
 -- Alert and status, read off the words of a set.
 use Prim.Native.Nat.{ℕ, zero, suc, _+_, _*_, _/_, _%_, _≤_, _<_}
-use mathlib.Core.Path.{_≡_, refl, ap, ap₂, sym, _∙_, subst}
-use mathlib.Core.List.{List, _∷_}
-use mathlib.Core.Bool.{Bool, true, false, not, _&&_, _||_}
+use mathlib.Core.Path.{_≡_, ap, ap₂, sym, _∙_, subst}
+use mathlib.Core.List.{List}
+use mathlib.Core.Bool.{Bool, true, false, not, _&&_}
 use mathlib.Core.Logic.{_⊎_, ⊎-elim}
 use native.Mathlib.Omega.{arith}
 use native.Mathlib.Nat.{eq-or-lt-of-le}
@@ -10,11 +10,10 @@ use native.Mathlib.Numerals.{add-one}
 use lib.Dec.{T, ltb, eqb, eqb→eq, eqb-refl, ltb→lt, lt→ltb}
 use lib.ListN.{getD, length, set}
 use lib.Seq.{getD-set-same, getD-set-other}
-use borrow.Author.Tests.{lt-ltb, le-ltb, eq-eqb, ne-eqb}
+use borrow.Author.Tests.{lt-ltb, eq-eqb, ne-eqb}
 use Rattle.lists.specs.Lists.{someBelow}
 use Rattle.lists.proofs.Bools.{and-left, and-right, both, refuted, bool-ext, equal?, some-intro, some-elim}
 use Rattle.rules.specs.Evaluation.{alert, status}
-use Rattle.flags.specs.declared.Flag.{Flag}
 use Rattle.flags.specs.declared.Flag.the-variants.{Clear}
 use Rattle.flags.specs.Flags.{flagOf}
 use Rattle.fillings.specs.PossibleStates.{has}
@@ -47,7 +46,7 @@ status-off w =
     let (s, h, u) = some-elim 1 (λ s. has (statesOf w 0) s && status 0 s) t in and-right (has (statesOf w 0) s) (status 0 s) u)))
 
 -- Status is active in some state of a set exactly if the top state is in it.
-pub top-active : (m : ℕ) (p : List Bool) → 0 < m → has p m ≡ someBelow (suc m) (λ s. has p s && status m s)
+top-active : (m : ℕ) (p : List Bool) → 0 < m → has p m ≡ someBelow (suc m) (λ s. has p s && status m s)
 top-active m p pos =
     bool-ext _ _
     (λ t. some-intro (suc m) (λ s. has p s && status m s) m (omega arith)

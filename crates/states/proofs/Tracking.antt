@@ -1,23 +1,21 @@
 -- The record keeps a trace's possible states: from the start, over seen and unseen ticks, and in its flags.
-use Prim.Native.Nat.{ℕ, suc, _+_, _/_, _%_, _≤_, _<_}
-use mathlib.Core.Path.{_≡_, refl, ap, ap₂, sym, _∙_, subst}
-use mathlib.Core.List.{List, [], _∷_}
+use Prim.Native.Nat.{ℕ, suc, _/_, _%_, _≤_, _<_}
+use mathlib.Core.Path.{_≡_, refl, ap, sym, _∙_}
+use mathlib.Core.List.{List, []}
 use mathlib.Core.Bool.{Bool, true, false, cond, _&&_}
 use native.Mathlib.Omega.{arith}
-use lib.Dec.{ltb, eqb}
+use lib.Dec.{ltb}
 use lib.ListN.{getD, length}
-use lib.Seq.{ext-getD}
-use borrow.Author.Tests.{eq-eqb, ltb-false}
-use Rattle.lists.specs.Lists.{tabulate}
-use Rattle.lists.proofs.Bools.{both-true, getD-tabulate}
+use borrow.Author.Tests.{ltb-false}
+use Rattle.lists.proofs.Bools.{both-true, tabulate-same}
 use Rattle.rules.specs.Samples.{Sample, readingsOf}
 use Rattle.rules.specs.Table.{rowAt}
 use Rattle.rules.specs.Evaluation.{trips, clears, top, evaluated, evaluations}
 use Rattle.fillings.specs.Fillings.{Rule, last, Shown, seen, unseen, Config, ruleOf}
-use Rattle.fillings.specs.PossibleStates.{Moves, found, moves, next, start, possible, unseenTimes}
-use Rattle.fillings.specs.Flags.{flagsOf, ruleFlags, flagsAt}
+use Rattle.fillings.specs.PossibleStates.{found, moves, next, start, possible, unseenTimes}
+use Rattle.fillings.specs.Flags.{flagsOf, flagsAt}
 use Rattle.fillings.proofs.Still.{possible-length, possible-hole}
-use Rattle.states.specs.Records.{at, statesOf, wordsOf, ruleWords, recordWith, packed, fresh}
+use Rattle.states.specs.Records.{statesOf, wordsOf, ruleWords, recordWith, packed, fresh}
 use Rattle.limits.specs.Limits.{settingOf}
 use Rattle.states.specs.Steps.{setOf, movesAt, seenWords, afterSeen, evaluationsOf, movesBetween, unseenWords, afterUnseen}
 use Rattle.states.specs.Readings.{allFlags}
@@ -27,11 +25,11 @@ use Rattle.states.proofs.AtZero.{start-words}
 use Rattle.states.proofs.RuleWords.{record-length, record-at}
 use Rattle.states.proofs.EachRule.{record-same, rule-new}
 use Rattle.states.proofs.RuleSteps.{seen-done, unseen-done}
-use Rattle.states.proofs.RuleFlagLaws.{unknown}
+use Rattle.states.proofs.RuleFlagLaws.{read-all}
 use Rattle.states.proofs.OffRules.{off-possible}
 use Rattle.states.proofs.Tops.{top-fits}
 
-pub packed-length : (f : ℕ → List Bool) → length (packed f) ≡ 80
+packed-length : (f : ℕ → List Bool) → length (packed f) ≡ 80
 packed-length f = record-length (λ i. true) (λ i. wordsOf (f i)) []
 
 packed-at : (f : ℕ → List Bool) (k : ℕ) → k < 80 → getD (packed f) k 0 ≡ getD (wordsOf (f (k / 5))) (k % 5) 0
@@ -85,7 +83,7 @@ module _ (p : Config) (short : ShortTimes p) (trace : ℕ → Shown) where
   top-low i = let h : settingOf (p .settings) i .time ≤ 255 = short i in top-fits (settingOf (p .settings) i .time) (omega arith)
 
   -- the set that the record has for a rule
-  pub set-at : (k i : ℕ) → i < 16 → setOf (settingOf (p .settings) i) i (recordAt p trace k) ≡ possible (ruleOf p i) trace k
+  set-at : (k i : ℕ) → i < 16 → setOf (settingOf (p .settings) i) i (recordAt p trace k) ≡ possible (ruleOf p i) trace k
   set-at k i h =
       ap (λ (w : List ℕ). statesOf w (last (ruleOf p i))) (packed-rule (P k) i h)
       ∙ states-words (P k i) (last (ruleOf p i)) (possible-length (ruleOf p i) trace k) (omega (arith, top-low i))
@@ -127,15 +125,9 @@ module _ (p : Config) (short : ShortTimes p) (trace : ℕ → Shown) where
       (λ v. let z : evaluationsOf a b i ≤ 0 = ltb-false 0 (evaluationsOf a b i) v in no-evaluation (ruleOf p i) trace a b l u (omega arith))))))
 
   reads : (k : ℕ) → allFlags (p .settings) (recordAt p trace k) ≡ flagsAt p trace k
-  unfolding allFlags
   reads k =
-      ap (λ (b : Bool). cond b (tabulate 16 (λ i. flagsOf (rowAt i) (top (settingOf (p .settings) i .time)) (setOf (settingOf (p .settings) i) i (recordAt p trace k)))) (tabulate 16 (λ i. unknown))) (eq-eqb (length (recordAt p trace k)) 80 (packed-length (P k)))
-      ∙ ext-getD unknown _ _ refl
-      (λ i h.
-      let g : i < 16 = h in
-      getD-tabulate 16 (λ j. flagsOf (rowAt j) (top (settingOf (p .settings) j .time)) (setOf (settingOf (p .settings) j) j (recordAt p trace k))) unknown i g
-      ∙ ap (flagsOf (rowAt i) (last (ruleOf p i))) (set-at k i g)
-      ∙ sym (getD-tabulate 16 (λ j. ruleFlags (ruleOf p j) trace k) unknown i g))
+      sym (read-all (p .settings) (recordAt p trace k) (packed-length (P k)))
+      ∙ tabulate-same 16 _ _ (λ i h. ap (flagsOf (rowAt i) (last (ruleOf p i))) (set-at k i h))
 
 -- The record follows every trace whose times are at most 255.
 pub tracks : (p : Config) → ShortTimes p → (trace : ℕ → Shown) → Tracks p trace

@@ -33,12 +33,7 @@ seenBy row idle r s i ws = wordsOf (next (top (s .time)) (found (trips idle row 
 abbrev pub seenWords : ℕ → Readings → Setting → ℕ → List ℕ → List ℕ
 seenWords idle r s i ws = seenBy (rowAt i) idle r s i ws
 
--- The record after a seen tick of rule i alone, by a row. A list that is not eighty words long is no record and stays as it is.
-unfoldable pub afterSeenRule : Row → Setting → ℕ → ℕ → Readings → ℕ → List ℕ → List ℕ
-afterSeenRule row s idle tick r i ws =
-    cond (eqb (length ws) 80 && ltb i 16) (recordWith (λ j. eqb j i && movesBy row tick s) (λ j. seenBy row idle r s i ws) ws) ws
-
--- The record after a seen tick of all rules.
+-- The record after a seen tick. A list that is not eighty words long is no record and stays as it is.
 unfoldable pub afterSeen : List Setting → ℕ → ℕ → Readings → List ℕ → List ℕ
 afterSeen ss idle tick r ws =
     cond (eqb (length ws) 80) (recordWith (λ i. movesAt tick (settingOf ss i) i) (λ i. seenWords idle r (settingOf ss i) i ws) ws) ws

@@ -14,14 +14,11 @@ mod words;
 
 use flags::Flags;
 pub use reading::flags_in;
-pub use reading::gap;
 use rules::Readings;
 use rules::Settings;
 pub use seen::see;
-pub use seen::see_rule;
 pub use unseen::miss;
 pub use validity::valid;
-pub use words::smaller;
 
 // Five words a rule: state s of rule i is bit s of the words from 5 i on, the lowest first.
 pub struct States {

@@ -2,7 +2,6 @@
 ghost use mathlib.Core.Path.{_≡_};
 ghost use mathlib.Core.Bool.{true};
 ghost use Prim.Native.Nat.{_<_, _≤_, min};
-ghost use lib.ListN.{getD};
 ghost use Rattle.lists.specs.Lists.{someBelow};
 ghost use Rattle.fillings.specs.PossibleStates.{found, next, start, unseenTimes};
 ghost use Rattle.rules.specs.Evaluation.{top, alert, status};
@@ -200,7 +199,7 @@ fn filled(w: [u64; 5], k: usize) -> [u64; 5]
 }
 
 // The smaller of a number and a state.
-pub fn smaller(n: u64, top: usize) -> usize
+fn smaller(n: u64, top: usize) -> usize
     ensures { λ k. ⌜ k ≡ min n top ⌝ }
 {
     let end = top as u64;

@@ -60,9 +60,3 @@ pub record Joined (high low r y : ℕ) : Type 0 where
 -- The words w k places up, with every bit below k.
 pub record Filled (w : List ℕ) (k : ℕ) (r : List ℕ) : Type 0 where
   pub bits : (p : ℕ) → p < 320 → at r p ≡ (ltb p k || at w (p - k))
-
--- From bit c down, r bits of a word are 0, and the next, if one is left, is 1.
-pub record Zeros (x c r : ℕ) : Type 0 where
-  pub within : r ≤ c + 1
-  pub none : (u : ℕ) → u < r → bit x (c - u) ≡ false
-  pub next : r ≤ c → bit x (c - r) ≡ true

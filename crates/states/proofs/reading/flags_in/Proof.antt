@@ -1,12 +1,13 @@
 use Prim.Native.Nat.{_-_}
-use mathlib.Core.Path.{refl}
+use mathlib.Core.Path.{refl, _∙_}
 use native.Mathlib.Omega.{arith}
-use Rattle.states.proofs.RuleFlagLaws.{Read, read-start, read-next, read-end, read-none}
+use Rattle.lists.proofs.Laying.{Laying, laying-start, laying-next, laying-end}
+use Rattle.states.proofs.RuleFlagLaws.{unknown, flagsIn, read-all, read-none}
 use Rattle.states.proofs.reading.flags_in.Statement.{statement}
 use Rattle.states.proofs.reading.flags_in.Tie as tie
 
 abbrev Inv-loop : tie.InvT-loop
-Inv-loop words settings flags₀ i₀ flags i = Read (settings .of) words (flags .of) i
+Inv-loop words settings flags₀ i₀ flags i = Laying unknown 16 (flagsIn (settings .of) words) (flags .of) i
 
 abbrev μ-loop : tie.MeasureT-loop
 μ-loop words settings flags₀ i₀ flags i = 16 - i
@@ -15,7 +16,7 @@ returns : tie.Need-returns Inv-loop μ-loop
 returns c = read-none _ _ (c .if1 .taken)
 
 loop-holds : tie.Need-loop-holds Inv-loop μ-loop
-loop-holds c = read-start _ _ _ (c .if1 .left) refl
+loop-holds c = laying-start _ 16 _ _ refl
 
 mul-setting : tie.Need-mul-setting Inv-loop μ-loop
 mul-setting c = omega arith
@@ -24,7 +25,7 @@ element-copy-out-setting : tie.Need-element-copy-out-setting Inv-loop μ-loop
 element-copy-out-setting c = omega arith
 
 flags-of-rule-requires : tie.Need-flags-of-rule-requires Inv-loop μ-loop
-flags-of-rule-requires c κs = (c .before .before .loop .inv .record-long, c .before .loop-test .taken)
+flags-of-rule-requires c κs = (c .before .before .before .if1 .left, c .before .loop-test .taken)
 
 mul-t14 : tie.Need-mul-t14 Inv-loop μ-loop
 mul-t14 c = omega arith
@@ -39,10 +40,10 @@ loop-less : tie.Need-loop-less Inv-loop μ-loop
 loop-less c = omega arith
 
 loop-again : tie.Need-loop-again Inv-loop μ-loop
-loop-again c = read-next _ _ _ _ _ (c .before .before .before .loop .inv) (c .before .before .loop-test .taken) (c .flags-of-rule .ensures)
+loop-again c = laying-next _ 16 _ _ (c .before .before .before .loop .inv) (c .before .before .loop-test .taken) (c .flags-of-rule .ensures)
 
 returns-2 : tie.Need-returns-2 Inv-loop μ-loop
-returns-2 c = read-end _ _ _ _ (c .before .loop .inv) (c .loop-test .left)
+returns-2 c = laying-end _ 16 _ (c .before .loop .inv) (c .loop-test .left) ∙ read-all _ _ (c .before .before .if1 .left)
 
 pub flags-in-spec : {M : Type 1} → statement M
 flags-in-spec =

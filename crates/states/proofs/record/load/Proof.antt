@@ -1,12 +1,14 @@
-use Prim.Native.Nat.{_-_}
-use mathlib.Core.Path.{refl}
+use Prim.Native.Nat.{_+_, _*_, _-_}
+use mathlib.Core.Path.{refl, _∙_}
 use native.Mathlib.Omega.{arith}
-use Rattle.states.proofs.RuleWords.{Loading, loading-start, loading-next, loading-end}
+use lib.ListN.{getD}
+use Rattle.lists.proofs.Laying.{Laying, laying-start, laying-next, laying-end}
+use Rattle.states.proofs.RuleWords.{words-read}
 use Rattle.states.proofs.record.load.Statement.{statement}
 use Rattle.states.proofs.record.load.Tie as tie
 
 abbrev Inv-loop : tie.InvT-loop
-Inv-loop words i k w₀ j₀ w j = Loading words i w j
+Inv-loop words i k w₀ j₀ w j = Laying 0 5 (λ p. getD words (5 * i + p) 0) w j
 
 abbrev μ-loop : tie.MeasureT-loop
 μ-loop words i k w₀ j₀ w j = 5 - j
@@ -15,7 +17,7 @@ mul-k : tie.Need-mul-k Inv-loop μ-loop
 mul-k c = omega arith
 
 loop-holds : tie.Need-loop-holds Inv-loop μ-loop
-loop-holds c = loading-start (c .args .words .now) (c .args .i) _ (c .pre .0) (c .pre .1) refl
+loop-holds c = laying-start 0 5 _ _ refl
 
 add-w : tie.Need-add-w Inv-loop μ-loop
 add-w c = omega arith
@@ -39,16 +41,10 @@ loop-less : tie.Need-loop-less Inv-loop μ-loop
 loop-less c = omega arith
 
 loop-again : tie.Need-loop-again Inv-loop μ-loop
-loop-again c =
-    let a = c .before .before .before .args in
-    let l = c .before .before .loop in
-    loading-next (a .words .now) (a .i) (l .w) (l .j) (l .inv) (c .before .loop-test .taken)
+loop-again c = laying-next 0 5 _ _ (c .before .before .loop .inv) (c .before .loop-test .taken) refl
 
 returns : tie.Need-returns Inv-loop μ-loop
-returns c =
-    let a = c .before .before .args in
-    let l = c .before .loop in
-    loading-end (a .words .now) (a .i) (l .w) (l .j) (l .inv) (c .loop-test .left)
+returns c = let (long, rule) = c .before .before .pre in laying-end 0 5 _ (c .before .loop .inv) (c .loop-test .left) ∙ words-read _ _ long rule
 
 pub load-spec : {M : Type 1} → statement M
 load-spec =

@@ -2,16 +2,11 @@ use Prim.Native.Nat.{ℕ}
 use mathlib.Core.Path.{refl, ap, _∙_}
 use mathlib.Core.List.{List}
 use lib.Dec.{eqb}
-use lib.ListN.{length}
 use borrow.Author.Needs.{needs}
 use Rattle.rules.specs.Evaluation.{clears}
 use Rattle.states.specs.Records.{recordWith}
 use Rattle.states.proofs.Tops.{positive-top}
-use Rattle.states.proofs.Packing.{wordsOf-length}
-use Rattle.states.proofs.RuleWords.{record-length}
-use Rattle.states.proofs.EachRule.{stored-flag}
-use Rattle.states.proofs.AtZero.{zero-stays, zero-clear}
-use Rattle.states.proofs.OneRule.{status-read}
+use Rattle.states.proofs.AtZero.{zero-stays}
 use Rattle.states.proofs.RuleSteps.{seen-words}
 use Rattle.states.proofs.seen.evaluate_rule.Statement.{statement}
 use Rattle.states.proofs.seen.evaluate_rule.Tie as tie
@@ -39,12 +34,8 @@ returns c =
     let top = c .before .before .before .before .before .top-for in
     let start = c .before .before .before .before .before .before .before in
     let a = start .args in
-    let pos = positive-top (top .ensures .0) (start .pre .1 .1) in (
-      zero-stays (a .words .now) (load .result) (a .i) (top .result) (test .result) (clears (a .row) (a .setting) (a .readings)) (zero .result) (start .pre .0) pos (top .ensures .1) (c .if1 .taken) (zero .ensures) (load .ensures)
-          ∙ ap (λ (v : List ℕ). recordWith (λ j. eqb j (a .i)) (λ j. v) (a .words .now)) (seen-words (a .idle) (a .readings) (a .setting) (a .i) (a .words .now) _ _ (a .row) (top .result) (test .ensures) refl (top .ensures .0) refl refl),
-      status-read (a .words .now) (a .i) (start .pre .0) (start .pre .1 .0) (a .setting) _ (top .result) _ (top .ensures .0) refl
-          (zero-clear (a .words .now) (load .result) (a .i) (top .result) (test .result) (zero .result) pos (top .ensures .1) (c .if1 .taken) (zero .ensures) (load .ensures)),
-    )
+    zero-stays (a .words .now) (load .result) (a .i) (top .result) (test .result) (clears (a .row) (a .setting) (a .readings)) (zero .result) (start .pre .0) (positive-top (top .ensures .0) (start .pre .1 .1)) (top .ensures .1) (c .if1 .taken) (zero .ensures) (load .ensures)
+    ∙ ap (λ (v : List ℕ). recordWith (λ j. eqb j (a .i)) (λ j. v) (a .words .now)) (seen-words (a .idle) (a .readings) (a .setting) (a .i) (a .words .now) _ _ (a .row) (top .result) (test .ensures) refl (top .ensures .0) refl refl)
 
 meets-recovery-requires : tie.Need-meets-recovery-requires
 meets-recovery-requires c κs = search needs
@@ -55,26 +46,19 @@ seen-moved-requires c κs = let top = c .before .before .before .before .before 
 store-requires : tie.Need-store-requires
 store-requires c κs = search needs
 
-status-of-requires : tie.Need-status-of-requires
-status-of-requires c κs = search needs
-
 same-length-2 : tie.Need-same-length-2
 same-length-2 c = search needs
 
 returns-2 : tie.Need-returns-2
 returns-2 c =
-    let store = c .before .before .before .store in
-    let move = c .before .before .before .before .before .seen-moved in
-    let load = c .before .before .before .before .before .before .before .before .before .load in
-    let top = c .before .before .before .before .before .before .before .before .before .before .before .before .top-for in
-    let start = c .before .before .before .before .before .before .before .before .before .before .before .before .before .before in
-    let a = start .args in (
-      store .ensures
-          ∙ ap (λ (v : List ℕ). recordWith (λ j. eqb j (a .i)) (λ j. v) (a .words .now))
-          (seen-words (a .idle) (a .readings) (a .setting) (a .i) (a .words .now) (load .result) (move .result) (a .row) (top .result) (c .before .before .before .before .before .before .before .before .before .before .before .meets-threshold .ensures) (c .before .before .before .before .before .before .meets-recovery .ensures) (top .ensures .0) (load .ensures) (move .ensures)),
-      status-read (store .last .0) (a .i) (ap length (store .ensures) ∙ record-length _ _ _) (start .pre .1 .0) (a .setting) _ (top .result) _ (top .ensures .0) refl
-          (stored-flag (a .words .now) (store .last .0) (move .result) (a .i) (top .result) _ (start .pre .1 .0) (ap length (move .ensures) ∙ wordsOf-length _) (store .ensures) (c .status-of .ensures)),
-    )
+    let store = c .before .before .store in
+    let move = c .before .before .before .before .seen-moved in
+    let load = c .before .before .before .before .before .before .before .before .load in
+    let top = c .before .before .before .before .before .before .before .before .before .before .before .top-for in
+    let a = c .before .before .before .before .before .before .before .before .before .before .before .before .before .args in
+    store .ensures
+    ∙ ap (λ (v : List ℕ). recordWith (λ j. eqb j (a .i)) (λ j. v) (a .words .now))
+    (seen-words (a .idle) (a .readings) (a .setting) (a .i) (a .words .now) (load .result) (move .result) (a .row) (top .result) (c .before .before .before .before .before .before .before .before .before .before .meets-threshold .ensures) (c .before .before .before .before .before .meets-recovery .ensures) (top .ensures .0) (load .ensures) (move .ensures))
 
 pub evaluate-rule-spec : {M : Type 1} → statement M
 evaluate-rule-spec =
@@ -89,6 +73,5 @@ evaluate-rule-spec =
     meets-recovery-requires
     seen-moved-requires
     store-requires
-    status-of-requires
     same-length-2
     returns-2)

@@ -36,8 +36,7 @@ element-copy-out-row : tie.Need-element-copy-out-row Inv-loop μ-loop
 element-copy-out-row c = omega arith
 
 step-rule-requires : tie.Need-step-rule-requires Inv-loop μ-loop
-step-rule-requires c κs =
-    let h = c .before .before .before .loop-test .taken in (moving-length _ _ _ _ _ (c .before .before .before .before .loop .inv), h)
+step-rule-requires c κs = (moving-length _ _ _ _ _ (c .before .before .before .before .loop .inv), omega arith)
 
 add-i : tie.Need-add-i Inv-loop μ-loop
 add-i c = omega arith
@@ -48,7 +47,7 @@ loop-less c = omega arith
 loop-again : tie.Need-loop-again Inv-loop μ-loop
 loop-again c =
     let a = c .before .before .before .before .before .before .before .before .before .before .before .args in
-    seeing-next (a .t2 .of) (a .idle) (a .tick) (a .readings) (a .words .now) (c .before .before .before .before .before .before .before .loop .words) (c .before .before .step-rule .last .0) (c .before .before .before .before .before .before .before .loop .i) _ (row-of _ _ _ (c .before .before .before .before .before .before .before .before .all-rows .ensures) (c .before .before .before .before .before .before .loop-test .taken)) (c .before .before .before .before .before .before .before .loop .inv) (c .before .before .before .before .before .before .loop-test .taken) (c .before .before .step-rule .ensures .0)
+    seeing-next (a .t2 .of) (a .idle) (a .tick) (a .readings) (a .words .now) (c .before .before .before .before .before .before .before .loop .words) (c .before .before .step-rule .last .0) (c .before .before .before .before .before .before .before .loop .i) _ (row-of _ _ _ (c .before .before .before .before .before .before .before .before .all-rows .ensures) (omega arith)) (c .before .before .before .before .before .before .before .loop .inv) (omega arith) (c .before .before .step-rule .ensures)
 
 same-length : tie.Need-same-length Inv-loop μ-loop
 same-length c = moving-length _ _ _ _ _ (c .before .loop .inv) ∙ sym (c .before .loop .inv .long)

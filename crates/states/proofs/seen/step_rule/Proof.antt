@@ -3,15 +3,12 @@ use borrow.Author.Needs.{needs}
 use Rattle.rules.specs.Evaluation.{evaluated}
 use Rattle.states.specs.Steps.{movesBy}
 use Rattle.states.proofs.EachRule.{rule-stays}
-use Rattle.states.proofs.OneRule.{status-of-off}
 use Rattle.states.proofs.RuleSteps.{off-stays, idle-stays, seen-moves}
 use Rattle.states.proofs.seen.step_rule.Statement.{statement}
 use Rattle.states.proofs.seen.step_rule.Tie as tie
 
 returns : tie.Need-returns
-returns c =
-    let start = c .before .before .before in
-    (rule-stays _ _ _ _ (start .pre .0) (off-stays _ _ (c .if1 .taken)), status-of-off _ _ (start .pre .0) (start .pre .1) (start .args .setting) (c .if1 .taken))
+returns c = rule-stays _ _ _ _ (c .before .before .before .pre .0) (off-stays _ _ (c .if1 .taken))
 
 evaluated-at-requires : tie.Need-evaluated-at-requires
 evaluated-at-requires c κs = search needs
@@ -27,32 +24,16 @@ returns-2 c =
     let move = c .before .before .evaluate-rule in
     let test = c .before .before .before .before .before .evaluated-at in
     let a = c .before .before .before .before .before .before .before .before .before .args in
-    (seen-moves (a .idle) (a .tick) (a .i) (a .readings) (a .setting) (a .words .now) (move .last .0) (a .row) (test .result) (c .before .before .before .before .before .before .if1 .left) (test .ensures) (c .before .before .before .before .if2 .taken) (move .ensures .0), move .ensures .1)
-
-status-in-requires : tie.Need-status-in-requires
-status-in-requires c κs = search needs
-
-same-length-2 : tie.Need-same-length-2
-same-length-2 c = search needs
+    seen-moves (a .idle) (a .tick) (a .i) (a .readings) (a .setting) (a .words .now) (move .last .0) (a .row) (test .result) (c .before .before .before .before .before .before .if1 .left) (test .ensures) (c .before .before .before .before .if2 .taken) (move .ensures)
 
 returns-3 : tie.Need-returns-3
 returns-3 c =
-    let start = c .before .before .before .before .before .before .before in
-    let a = start .args in (
-      rule-stays (movesBy (a .row) (a .tick) (a .setting)) _ _ _ (start .pre .0)
-          (idle-stays (a .setting .time) (evaluated (a .row) (a .tick)) (sym (c .before .before .before .evaluated-at .ensures) ∙ c .before .before .if2 .left)),
-      c .status-in .ensures,
-    )
+    let start = c .before .before .before .before .before in
+    let a = start .args in
+    rule-stays (movesBy (a .row) (a .tick) (a .setting)) _ _ _ (start .pre .0)
+    (idle-stays (a .setting .time) (evaluated (a .row) (a .tick)) (sym (c .before .evaluated-at .ensures) ∙ c .if2 .left))
 
 pub step-rule-spec : {M : Type 1} → statement M
 step-rule-spec =
     tie.close
-    (tie.spec
-    returns
-    evaluated-at-requires
-    evaluate-rule-requires
-    same-length
-    returns-2
-    status-in-requires
-    same-length-2
-    returns-3)
+    (tie.spec returns evaluated-at-requires evaluate-rule-requires same-length returns-2 returns-3)

@@ -4,7 +4,7 @@ use native.Mathlib.Omega.{arith}
 use borrow.Author.Needs.{needs}
 use Rattle.rules.specs.Evaluation.{top}
 use Rattle.states.specs.Records.{ruleWords}
-use Rattle.states.proofs.EachRule.{word-of}
+use Rattle.states.proofs.RuleWords.{part}
 use Rattle.states.proofs.ValidWords.{Checked, checked-start, checked-next, checked-stop, checked-end}
 use Rattle.states.proofs.validity.valid_rule.Statement.{statement}
 use Rattle.states.proofs.validity.valid_rule.Tie as tie
@@ -49,7 +49,7 @@ loop-again : tie.Need-loop-again Inv-loop μ-loop
 loop-again c =
     let l = c .before .before .before .before in
     let a = l .before .before .before .args in
-    checked-next _ _ (l .loop .found) (l .loop .j) _ (l .loop .inv) (c .before .before .before .loop-test .taken) (sym (word-of (a .words .now) (a .i) (l .loop .j) (c .before .before .before .loop-test .taken)))
+    checked-next _ _ (l .loop .found) (l .loop .j) _ (l .loop .inv) (c .before .before .before .loop-test .taken) (sym (part (a .words .now) (5 * a .i) (l .loop .j) (c .before .before .before .loop-test .taken)))
     (c .before .before .shared-slice-known2 .given (5 * a .i + l .loop .j) .fits) (c .before .ends-below .ensures) (c .if1 .taken)
 
 returns : tie.Need-returns Inv-loop μ-loop
@@ -57,7 +57,7 @@ returns c =
     let l = c .before .before .before .before in
     let a = l .before .before .before .args in
     checked-stop _ _ (top (a .setting .time)) (ap (λ (m : ℕ). m + 1) (l .before .top-for .ensures .0)) (l .loop .j) _ (c .before .before .before .loop-test .taken)
-    (sym (word-of (a .words .now) (a .i) (l .loop .j) (c .before .before .before .loop-test .taken))) (c .before .before .shared-slice-known2 .given (5 * a .i + l .loop .j) .fits)
+    (sym (part (a .words .now) (5 * a .i) (l .loop .j) (c .before .before .before .loop-test .taken))) (c .before .before .shared-slice-known2 .given (5 * a .i + l .loop .j) .fits)
     (c .before .ends-below .ensures) (c .if1 .left)
 
 returns-2 : tie.Need-returns-2 Inv-loop μ-loop
