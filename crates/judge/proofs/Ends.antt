@@ -1,6 +1,6 @@
 -- From the parts of an accepted trace to the start of the walk, and from its end to the report.
 use Prim.Native.Nat.{ℕ}
-use mathlib.Core.Path.{_≡_, refl, sym, ap, ap₂, subst, _∙_}
+use mathlib.Core.Path.{_≡_, sym, ap, ap₂, subst, _∙_}
 use mathlib.Core.List.{List}
 use native.Mathlib.Omega.{arith}
 use lib.IntN.{ℤ}
@@ -17,20 +17,18 @@ use Rattle.verdicts.specs.declared.Tick.the-variants.{Unseen}
 use Rattle.walk.specs.Walk.{startOf}
 use Rattle.walk.specs.inner.Places.{shows}
 use Rattle.judge.specs.declared.advance.Frame.{Frame}
-use Rattle.judge.specs.declared.replies.Point.{Point}
-use Rattle.judge.specs.inner.Walk.{configIn, Planned, alarmsOf, Known, At, AtPoint}
+use Rattle.judge.specs.declared.advance.Stop.{Stop}
+use Rattle.judge.specs.inner.Walk.{configIn, Planned, Known, At}
 use Rattle.judge.specs.inner.Ending.{joined, Parts}
 use Rattle.judge.proofs.Knowing.{known-start, flags-known}
-use Rattle.judge.proofs.Points.{alarms-known}
 use Rattle.judge.proofs.Joining.{firsts-joined}
 
 module _ {f : Frame} {holes replies samples : List ℕ} {verdicts : ℕ} {tests : List ℤ} {lanes : List ℕ} (g : Parts f holes replies samples verdicts) (planned : Planned f tests lanes) where
-  pub point-start : {x : Point} {states firsts : List ℕ} → states ≡ paired (λ i. 0) (λ i. 0) → firsts ≡ paired (λ i. none) (λ i. none)
-      → x ≡ record { stop = record { cursor = startOf; shown = Unseen }; alarms = alarmsOf (flagsOfStates lanes states) } → AtPoint f holes samples x states firsts
-  point-start {states = states} {firsts} s t e =
-      let a : At f holes samples (record { cursor = startOf; shown = Unseen }) states firsts =
-      record { ready = g .ready; stands = g .stands; shown = λ t i. absurd (omega arith); known = known-start samples (g .ready) s t } in
-      subst (λ (y : Point). AtPoint f holes samples y states firsts) (sym e) (record { there = a; alarms = alarms-known planned a refl })
+  pub stop-start : {x : Stop} {states firsts : List ℕ} → states ≡ paired (λ i. 0) (λ i. 0) → firsts ≡ paired (λ i. none) (λ i. none)
+      → x ≡ record { cursor = startOf; shown = Unseen } → At f holes samples x states firsts
+  stop-start {states = states} {firsts} s t e =
+      subst (λ (y : Stop). At f holes samples y states firsts) (sym e)
+      (record { ready = g .ready; stands = g .stands; shown = λ t i. absurd (omega arith); known = known-start samples (g .ready) s t })
 
   pub report-end : {states firsts report′ : List ℕ} {t t′ : Totals} (report : List ℕ) → Known (configIn f) samples (f .ticks) states firsts → t ≡ t′
       → report′ ≡ reported (flagsOfStates lanes states) (joined firsts) t report

@@ -1,10 +1,11 @@
 -- The loop over the replies.
 use Prim.Native.Nat.{ℕ, suc, _+_, _-_, _*_, _/_, _≤_, _<_}
-use mathlib.Core.Path.{_≡_, sym, ap, ap₂, subst, _∙_}
+use mathlib.Core.Path.{_≡_, refl, sym, ap, ap₂, subst, _∙_}
 use mathlib.Core.Bool.{_||_}
 use mathlib.Core.List.{List, [], _∷_, _++_, map, append-nil}
 use native.Mathlib.Omega.{arith}
 use native.Mathlib.Numerals.{add-one}
+use lib.IntN.{ℤ}
 use lib.Dec.{ltb, leb}
 use lib.ListN.{length, take, drop, set, length-set, length-drop}
 use lib.Seq.{take-suc-set, length-take-le, take-all, append-snoc}
@@ -17,27 +18,29 @@ use Rattle.trace.specs.Records.{Reply, replyAt, repliesFrom, repliesIn}
 use Rattle.trace.specs.Coverage.{repliesAnswer}
 use Rattle.refusals.proofs.Answers.{unless}
 use Rattle.ticks.proofs.Places.{place-low}
+use Rattle.bounds.specs.Steps.{flagsOfStates}
 use Rattle.verdicts.specs.declared.Tick.{Tick}
 use Rattle.verdicts.specs.declared.Alarms.{Alarms}
 use Rattle.verdicts.specs.Verdicts.{verdictOf}
 use Rattle.demands.specs.Verdicts.{alarmsAt, verdictOn}
-use Rattle.judge.specs.declared.replies.Point.{Point}
+use Rattle.judge.specs.declared.advance.Stop.{Stop}
 use Rattle.walk.specs.inner.Places.{shows}
 use Rattle.judge.specs.declared.advance.Frame.{Frame}
-use Rattle.judge.specs.inner.Walk.{configIn, Known, AtPoint, Reached}
+use Rattle.judge.specs.inner.Walk.{configIn, Planned, Known, At, Arrived, alarmsOf}
+use Rattle.judge.proofs.Points.{alarms-known}
 
 -- The replies below number j are judged, and the walk has not passed the next one; `low` is the tick of the last one.
-pub record Judging (f : Frame) (holes samples replies : List ℕ) (states firsts verdicts : List ℕ) (x : Point) (j : ℕ) : Type 0 where
-  pub there : AtPoint f holes samples x states firsts
+pub record Judging (f : Frame) (holes samples replies : List ℕ) (states firsts verdicts : List ℕ) (x : Stop) (j : ℕ) : Type 0 where
+  pub there : At f holes samples x states firsts
   pub count : length verdicts ≡ length replies / 10
   pub within : j ≤ length verdicts
   pub low : ℕ
-  pub passed : x .stop .cursor .tick ≤ low + 1
+  pub passed : x .cursor .tick ≤ low + 1
   pub left : repliesAnswer (f .ticks) (repliesFrom replies (length replies / 10 - j) (j * 10)) j low ≡ answer tt
   pub judged : map (verdictOn (configIn f) (shows (f .cells) samples)) (repliesIn replies) ≡ take j verdicts ++ map (verdictOn (configIn f) (shows (f .cells) samples)) (repliesFrom replies (length replies / 10 - j) (j * 10))
 
-pub judging-start : {f : Frame} {holes samples replies : List ℕ} {states firsts verdicts : List ℕ} {x : Point} → AtPoint f holes samples x states firsts
-    → x .stop .cursor .tick ≤ 1 → repliesAnswer (f .ticks) (repliesIn replies) 0 0 ≡ answer tt → length verdicts ≡ length replies / 10
+pub judging-start : {f : Frame} {holes samples replies : List ℕ} {states firsts verdicts : List ℕ} {x : Stop} → At f holes samples x states firsts
+    → x .cursor .tick ≤ 1 → repliesAnswer (f .ticks) (repliesIn replies) 0 0 ≡ answer tt → length verdicts ≡ length replies / 10
     → Judging f holes samples replies states firsts verdicts x 0
 judging-start {f} {samples = samples} {replies} g l a n =
     let e : length replies / 10 ≡ length replies / 10 - 0 = omega arith in
@@ -52,13 +55,13 @@ judging-start {f} {samples = samples} {replies} g l a n =
     }
 
 -- The verdict from where the walk stands after the reply's tick.
-verdict-here : (f : Frame) (holes samples : List ℕ) (states firsts : List ℕ) (x : Point) (tick : ℕ) (bytes : List ℕ) → AtPoint f holes samples x states firsts
-    → x .stop .cursor .tick ≡ suc tick → verdictOf (x .stop .shown) (x .alarms) bytes ≡ verdictOn (configIn f) (shows (f .cells) samples) (record { tick = tick; bytes = bytes })
-verdict-here f holes samples states firsts x tick bytes g e =
-    ap₂ (λ (t : Tick) (a : Alarms). verdictOf t a bytes) (g .there .shown tick e)
-    (g .alarms ∙ ap (alarmsAt (configIn f) (shows (f .cells) samples)) e)
+verdict-here : {f : Frame} {tests : List ℤ} {lanes holes samples states firsts : List ℕ} {x : Stop} {tick : ℕ} (bytes : List ℕ) → Planned f tests lanes → At f holes samples x states firsts
+    → x .cursor .tick ≡ suc tick → verdictOf (x .shown) (alarmsOf (flagsOfStates lanes states)) bytes ≡ verdictOn (configIn f) (shows (f .cells) samples) (record { tick = tick; bytes = bytes })
+verdict-here {f} {samples = samples} bytes planned g e =
+    ap₂ (λ (t : Tick) (a : Alarms). verdictOf t a bytes) (g .shown _ e)
+    (alarms-known planned g refl ∙ ap (alarmsAt (configIn f) (shows (f .cells) samples)) e)
 
-module _ {f : Frame} {holes samples replies : List ℕ} {states firsts verdicts : List ℕ} {x : Point} {j : ℕ} (g : Judging f holes samples replies states firsts verdicts x j) where
+module _ {f : Frame} {holes samples replies : List ℕ} {states firsts verdicts : List ℕ} {x : Stop} {j : ℕ} (g : Judging f holes samples replies states firsts verdicts x j) where
   abbrev n : ℕ
   n = length replies / 10
 
@@ -99,15 +102,15 @@ module _ {f : Frame} {holes samples replies : List ℕ} {states firsts verdicts 
       let k : 6 ≤ length (drop (j * 10 + 4) replies) = omega (arith, length-drop (j * 10 + 4) replies) in
       ap (λ (i : ℕ). length (take i (drop (j * 10 + 4) replies))) e ∙ length-take-le 6 (drop (j * 10 + 4) replies) k
 
-  pub judging-next : j < length verdicts → (to v : ℕ) {states′ firsts′ : List ℕ} {x′ : Point} → to ≡ u32At replies (j * 10) + 1
-      → Reached f holes samples x′ to states′ firsts′
-      → v ≡ verdictOf (x′ .stop .shown) (x′ .alarms) (take (j * 10 + 10 - (j * 10 + 4)) (drop (j * 10 + 4) replies))
+  pub judging-next : {tests : List ℤ} {lanes : List ℕ} → Planned f tests lanes → j < length verdicts → (to v : ℕ) {states′ firsts′ : List ℕ} {x′ : Stop} → to ≡ u32At replies (j * 10) + 1
+      → Arrived f holes samples x′ to states′ firsts′
+      → v ≡ verdictOf (x′ .shown) (alarmsOf (flagsOfStates lanes states′)) (take (j * 10 + 10 - (j * 10 + 4)) (drop (j * 10 + 4) replies))
       → Judging f holes samples replies states′ firsts′ (set verdicts j v) x′ (j + 1)
-  judging-next h to v {x′ = x′} t r e =
+  judging-next {lanes = lanes} planned h to v {states′} {x′ = x′} t r e =
       let six : j * 10 + 10 - (j * 10 + 4) ≡ 6 = omega arith in
-      let tick : x′ .stop .cursor .tick ≡ suc (u32At replies (j * 10)) = r .at ∙ t ∙ add-one _ in
+      let tick : x′ .cursor .tick ≡ suc (u32At replies (j * 10)) = r .at ∙ t ∙ add-one _ in
       let is : v ≡ verdict reply =
-      e ∙ ap (λ (i : ℕ). verdictOf (x′ .stop .shown) (x′ .alarms) (take i (drop (j * 10 + 4) replies))) six ∙ verdict-here _ _ _ _ _ x′ _ _ (r .there) tick in
+      e ∙ ap (λ (i : ℕ). verdictOf (x′ .shown) (alarmsOf (flagsOfStates lanes states′)) (take i (drop (j * 10 + 4) replies))) six ∙ verdict-here _ planned (r .there) tick in
       let split = spaced-next (replyAt replies) 10 (length replies / 10 - j) (j * 10) (some h) in
       let d : length replies / 10 - j - 1 ≡ length replies / 10 - (j + 1) = omega arith in
       let a : j * 10 + 10 ≡ (j + 1) * 10 = omega arith in
@@ -129,8 +132,8 @@ module _ {f : Frame} {holes samples replies : List ℕ} {states firsts verdicts 
       }
 
   -- the walk has not passed the last tick
-  pub not-past : x .stop .cursor .tick ≤ f .ticks
-  not-past = place-low _ _ _ (g .there .there .stands .place)
+  pub not-past : x .cursor .tick ≤ f .ticks
+  not-past = place-low _ _ _ (g .there .stands .place)
 
   pub judging-end : length verdicts ≤ j → verdicts ≡ map verdict (repliesIn replies)
   unfolding spaced
@@ -142,5 +145,5 @@ module _ {f : Frame} {holes samples replies : List ℕ} {states firsts verdicts 
       ∙ append-nil (take j verdicts)
       ∙ take-all j verdicts h)
 
-pub known-there : {f : Frame} {holes samples : List ℕ} {x : Point} {to : ℕ} {states firsts : List ℕ} → Reached f holes samples x to states firsts → Known (configIn f) samples to states firsts
-known-there {f} {samples = samples} {states = states} {firsts} r = subst (λ (k : ℕ). Known (configIn f) samples k states firsts) (r .at) (r .there .there .known)
+pub known-there : {f : Frame} {holes samples : List ℕ} {x : Stop} {to : ℕ} {states firsts : List ℕ} → Arrived f holes samples x to states firsts → Known (configIn f) samples to states firsts
+known-there {f} {samples = samples} {states = states} {firsts} r = subst (λ (k : ℕ). Known (configIn f) samples k states firsts) (r .at) (r .there .known)

@@ -1,12 +1,12 @@
 -- The verdict on a reply, and the bits of BatteryStatus, from where the walk stands.
 use Prim.Native.Nat.{ℕ}
-use mathlib.Core.Path.{_≡_, sym, ap, _∙_}
+use mathlib.Core.Path.{_≡_, refl, sym, ap, _∙_}
 use mathlib.Core.Bool.{Bool, cond}
 use mathlib.Core.List.{List}
 use native.Mathlib.Omega.{arith}
 use lib.IntN.{ℤ}
-use lib.ListN.{length}
-use borrow.Author.Tests.{eq-eqb}
+use lib.ListN.{getD, length}
+use borrow.Author.Tests.{eq-eqb, ne-eqb}
 use Rattle.refusals.specs.Refusals.{Answer, answer, refused}
 use Rattle.bounds.specs.Steps.{flagsOfStates}
 use Rattle.verdicts.specs.declared.Tick.{Tick}
@@ -16,8 +16,7 @@ use Rattle.demands.specs.Verdicts.{alarmsAt}
 use Rattle.walk.specs.inner.Places.{shows}
 use Rattle.judge.specs.declared.advance.Frame.{Frame}
 use Rattle.judge.specs.declared.advance.Stop.{Stop}
-use Rattle.judge.specs.declared.replies.Point.{Point}
-use Rattle.judge.specs.inner.Walk.{configIn, Planned, At, Arrived, alarmsOf, AtPoint, Reached}
+use Rattle.judge.specs.inner.Walk.{configIn, Planned, At, alarmsOf}
 use Rattle.judge.proofs.Knowing.{flags-known}
 
 six : (tick : Tick) (a : Alarms) (bytes : List ℕ) → length bytes ≡ 6 → verdictAnswer tick a bytes ≡ answer (verdictOf tick a bytes)
@@ -38,6 +37,6 @@ pub alarms-known : {f : Frame} {tests : List ℤ} {lanes holes samples : List �
     → {alarms : Alarms} → alarms ≡ alarmsOf (flagsOfStates lanes states) → alarms ≡ alarmsAt (configIn f) (shows (f .cells) samples) (x .cursor .tick)
 alarms-known planned g e = e ∙ ap alarmsOf (flags-known (g .ready) planned (g .known))
 
-pub point-reached : {f : Frame} {tests : List ℤ} {lanes holes samples : List ℕ} {x : Stop} {to : ℕ} {states firsts : List ℕ} {alarms : Alarms} → Planned f tests lanes → Arrived f holes samples x to states firsts
-    → alarms ≡ alarmsOf (flagsOfStates lanes states) → Reached f holes samples (record { stop = x; alarms = alarms }) to states firsts
-point-reached planned g e = record { there = record { there = g .there; alarms = alarms-known planned (g .there) e }; at = g .at }
+-- The verdict on a reply of another command does not look at the bits.
+pub other-command : (tick : Tick) (a b : Alarms) (bytes : List ℕ) → (getD bytes 1 0 ≡ 0x16 → ⊥) → verdictOf tick a bytes ≡ verdictOf tick b bytes
+other-command tick a b bytes n = rw (ne-eqb (getD bytes 1 0) 0x16 n) refl

@@ -36,7 +36,7 @@ fn judge_parts(
     let lanes = bounds::lanes_of(settings);
     let mut states = [0u8; 32];
     let mut firsts = [0xFFFFFFFFu32; 32];
-    let start = start_at(&lanes, &states);
+    let start = start_at();
     judge_records(
         holes,
         samples,

@@ -1,20 +1,22 @@
 // The verdicts on the replies of an accepted trace.
 ghost use mathlib.Core.Path.{_≡_};
-ghost use mathlib.Core.List.{map};
+ghost use mathlib.Core.List.{List, map};
 ghost use Prim.Native.Nat.{ℕ, _/_, _≤_};
-ghost use lib.ListN.{length};
+ghost use lib.ListN.{getD, length};
 ghost use Rattle.refusals.specs.Refusals.{answer};
 ghost use Rattle.trace.specs.Records.{repliesIn};
 ghost use Rattle.trace.specs.Coverage.{repliesAnswer};
 ghost use Rattle.bounds.specs.Steps.{flagsOfStates};
+ghost use Rattle.verdicts.specs.declared.Tick.{Tick};
 ghost use Rattle.verdicts.specs.Verdicts.{verdictOf};
 ghost use Rattle.demands.specs.Verdicts.{verdictOn};
 ghost use Rattle.walk.specs.Walk.{startOf};
 ghost use Rattle.walk.specs.inner.Places.{shows};
-ghost use Rattle.judge.specs.inner.Walk.{configIn, Planned, alarmsOf, AtPoint, Reached, Known};
+ghost use Rattle.judge.specs.inner.Walk.{configIn, Planned, alarmsOf, At, Known};
 use crate::advance::Frame;
 use crate::advance::Stop;
 use crate::advance::advance;
+use flags::Flag;
 use flags::Output;
 use verdicts::Alarms;
 use verdicts::Tick;
@@ -32,50 +34,28 @@ fn alarms_in(lanes: &[u8; 32], states: &[u8]) -> Alarms
     }
 }
 
-// Where the walk stands, with the bits of BatteryStatus there.
-pub(crate) struct Point {
-    pub(crate) stop: Stop,
-    pub(crate) alarms: Alarms,
+// The bits, where the command of a reply asks for them: the verdict on another does not look at them.
+fn alarms_for(command: u8, lanes: &[u8; 32], states: &[u8]) -> Alarms
+    ensures { λ r. ⌜ ((tick : Tick) (bytes : List ℕ) → getD bytes 1 0 ≡ command → verdictOf tick r bytes ≡ verdictOf tick (alarmsOf (flagsOfStates (now (lanes .entry)) (now (states .entry)))) bytes) ⌝ }
+{
+    if command == 0x16 {
+        return alarms_in(lanes, states);
+    }
+    Alarms {
+        terminate_charge: Flag::Unknown,
+        over_temp: Flag::Unknown,
+        terminate_discharge: Flag::Unknown,
+    }
 }
 
 // Where the walk begins.
-pub(crate) fn start_at(lanes: &[u8; 32], states: &[u8]) -> Point
-    ensures { λ r. ⌜ r ≡ record { stop = record { cursor = startOf; shown = Tick.Unseen }; alarms = alarmsOf (flagsOfStates (now (lanes .entry)) (now (states .entry))) } ⌝ }
+pub(crate) fn start_at() -> Stop
+    ensures { λ r. ⌜ r ≡ record { cursor = startOf; shown = Tick.Unseen } ⌝ }
 {
     let cursor = walk::start();
-    Point {
-        stop: Stop {
-            cursor,
-            shown: Tick::Unseen,
-        },
-        alarms: alarms_in(lanes, states),
-    }
-}
-
-// Walks on to the tick `to`, unless it stands there.
-fn reach(
-    holes: &[u8],
-    samples: &[u8],
-    tests: &[i32; 64],
-    lanes: &[u8; 32],
-    f: Frame,
-    at: Point,
-    to: u32,
-    states: &mut [u8],
-    firsts: &mut [u32],
-) -> Point
-    requires { ⌜ Planned f (now tests) (now lanes) × AtPoint f (now holes) (now samples) at (now states) (now firsts) × (at .stop .cursor .tick ≤ to) × (to ≤ f .ticks) ⌝ }
-    ensures { λ r. ⌜ Reached f (now (holes .entry)) (now (samples .entry)) r to (now (states .exit)) (now (firsts .exit)) ⌝ }
-{
-    let stop = at.stop;
-    let c = stop.cursor;
-    if to <= c.tick {
-        return at;
-    }
-    let stop = advance(holes, samples, tests, lanes, f, stop, to, states, firsts);
-    Point {
-        stop,
-        alarms: alarms_in(lanes, states),
+    Stop {
+        cursor,
+        shown: Tick::Unseen,
     }
 }
 
@@ -95,6 +75,15 @@ fn verdict_on(shown: Tick, alarms: Alarms, reply: &[u8]) -> u8
     }
 }
 
+// The number of the verdict on a reply of six bytes, where the walk stands after its tick.
+fn judge_here(shown: Tick, lanes: &[u8; 32], states: &[u8], reply: &[u8]) -> u8
+    requires { ⌜ length (now reply) ≡ 6 ⌝ }
+    ensures { λ r. ⌜ r ≡ verdictOf shown (alarmsOf (flagsOfStates (now (lanes .entry)) (now (states .entry)))) (now (reply .entry)) ⌝ }
+{
+    let alarms = alarms_for(reply[1], lanes, states);
+    verdict_on(shown, alarms, reply)
+}
+
 // Walks over the records: judges each reply after its own tick's evaluations, and goes on to the last tick.
 pub(crate) fn judge_records(
     holes: &[u8],
@@ -103,12 +92,12 @@ pub(crate) fn judge_records(
     tests: &[i32; 64],
     lanes: &[u8; 32],
     f: Frame,
-    start: Point,
+    start: Stop,
     states: &mut [u8],
     firsts: &mut [u32],
     verdicts: &mut [u8],
 )
-    requires { ⌜ Planned f (now tests) (now lanes) × AtPoint f (now holes) (now samples) start (now states) (now firsts) × (start .stop .cursor .tick ≤ 1) × (repliesAnswer (f .ticks) (repliesIn (now replies)) 0 0 ≡ answer tt) × (length (now verdicts) ≡ length (now replies) / 10) × (length (now replies) ≤ 655350) ⌝ }
+    requires { ⌜ Planned f (now tests) (now lanes) × At f (now holes) (now samples) start (now states) (now firsts) × (start .cursor .tick ≤ 1) × (repliesAnswer (f .ticks) (repliesIn (now replies)) 0 0 ≡ answer tt) × (length (now verdicts) ≡ length (now replies) / 10) × (length (now replies) ≤ 655350) ⌝ }
     ensures known { λ _. ⌜ Known (configIn f) (now (samples .entry)) (f .ticks) (now (states .exit)) (now (firsts .exit)) ⌝ }
     ensures verdicts { λ _. ⌜ now (verdicts .exit) ≡ map (verdictOn (configIn f) (shows (f .cells) (now (samples .entry)))) (repliesIn (now (replies .entry))) ⌝ }
 {
@@ -117,12 +106,10 @@ pub(crate) fn judge_records(
     while j < verdicts.len() {
         let at = j * 10;
         let to = bytes_le::u32_at(replies, at) + 1;
-        x = reach(holes, samples, tests, lanes, f, x, to, states, firsts);
-        let stop = x.stop;
-        let shown = stop.shown;
-        let alarms = x.alarms;
-        verdicts[j] = verdict_on(shown, alarms, &replies[at + 4..at + 10]);
+        x = advance(holes, samples, tests, lanes, f, x, to, states, firsts);
+        let shown = x.shown;
+        verdicts[j] = judge_here(shown, lanes, states, &replies[at + 4..at + 10]);
         j += 1;
     }
-    reach(holes, samples, tests, lanes, f, x, f.ticks, states, firsts);
+    advance(holes, samples, tests, lanes, f, x, f.ticks, states, firsts);
 }

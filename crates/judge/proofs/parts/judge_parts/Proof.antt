@@ -1,9 +1,9 @@
-use mathlib.Core.Path.{refl}
-use native.Mathlib.Omega.{arith}
-use borrow.Author.Needs.{needs}
-use Rattle.bounds.specs.Lanes.{paired}
 use Rattle.judge.specs.inner.Walk.{Planned}
-use Rattle.judge.proofs.Ends.{point-start, report-end}
+use Rattle.judge.proofs.Ends.{stop-start, report-end}
+use Rattle.bounds.specs.Lanes.{paired}
+use native.Mathlib.Omega.{arith}
+use mathlib.Core.Path.{refl}
+use borrow.Author.Needs.{needs}
 use Rattle.judge.proofs.parts.judge_parts.Statement.{statement}
 use Rattle.judge.proofs.parts.judge_parts.Tie as tie
 
@@ -12,12 +12,6 @@ tests-of-requires c κs = search needs
 
 lanes-of-requires : tie.Need-lanes-of-requires
 lanes-of-requires c κs = search needs
-
-planned : (c : tie.After-lanes-of) → Planned (c .before .before .before .before .before .before .before .before .args .f) (c .before .tests-of .result) (c .lanes-of .result)
-planned c = record { tests = c .before .tests-of .ensures; lanes = c .lanes-of .ensures }
-
-slice-aggregate-start-at : tie.Need-slice-aggregate-start-at
-slice-aggregate-start-at c = search needs
 
 start-at-requires : tie.Need-start-at-requires
 start-at-requires c κs = search needs
@@ -31,12 +25,13 @@ slice-aggregate-judge-records-2 c = search needs
 judge-records-requires : tie.Need-judge-records-requires
 unfolding paired
 judge-records-requires c κs =
-    let g = c .before .before .before .before .before .before .before .before .before .before .before .before .before .before .before .before .pre in
+    let g = c .before .before .before .before .before .before .before .before .before .before .before .before .before .before .pre in
     let e = c .before .before .before .before .before .start-at .ensures in
-    (planned (c .before .before .before .before .before .before .before .before), point-start g (planned (c .before .before .before .before .before .before .before .before)) refl refl e, rw e (omega arith), g .ticksOfReplies, g .count, g .few)
+    let planned : Planned (c .before .before .before .before .before .before .before .before .before .before .before .before .before .before .args .f) (c .before .before .before .before .before .before .before .tests-of .result) (c .before .before .before .before .before .before .lanes-of .result) = record { tests = c .before .before .before .before .before .before .before .tests-of .ensures; lanes = c .before .before .before .before .before .before .lanes-of .ensures } in
+    (planned, stop-start g planned refl refl e, rw e (omega arith), g .ticksOfReplies, g .count, g .few)
 
 totals-of-requires : tie.Need-totals-of-requires
-totals-of-requires c κs = c .before .before .before .before .before .before .before .before .before .before .before .before .before .before .before .before .before .before .before .before .before .pre .unseenFew
+totals-of-requires c κs = search needs
 
 slice-aggregate-write-end : tie.Need-slice-aggregate-write-end
 slice-aggregate-write-end c = search needs
@@ -56,7 +51,8 @@ same-length-2 c = search needs
 returns : tie.Need-returns
 returns c =
     let r = c .before .before .before .before .before .before .before .before .before .before .before .before .judge-records .ensures in
-    (report-end (c .before .before .before .before .before .before .before .before .before .before .before .before .before .before .before .before .before .before .before .before .before .before .before .before .before .before .before .before .before .pre) (planned (c .before .before .before .before .before .before .before .before .before .before .before .before .before .before .before .before .before .before .before .before .before)) _ (r .0) (c .before .before .before .before .before .before .before .totals-of .ensures) (c .before .before .write-end .ensures), r .1)
+    let planned : Planned (c .before .before .before .before .before .before .before .before .before .before .before .before .before .before .before .before .before .before .before .before .before .before .before .before .before .before .before .args .f) (c .before .before .before .before .before .before .before .before .before .before .before .before .before .before .before .before .before .before .before .before .tests-of .result) (c .before .before .before .before .before .before .before .before .before .before .before .before .before .before .before .before .before .before .before .lanes-of .result) = record { tests = c .before .before .before .before .before .before .before .before .before .before .before .before .before .before .before .before .before .before .before .before .tests-of .ensures; lanes = c .before .before .before .before .before .before .before .before .before .before .before .before .before .before .before .before .before .before .before .lanes-of .ensures } in
+    (report-end (c .before .before .before .before .before .before .before .before .before .before .before .before .before .before .before .before .before .before .before .before .before .before .before .before .before .before .before .pre) planned _ (r .0) (c .before .before .before .before .before .before .before .totals-of .ensures) (c .before .before .write-end .ensures), r .1)
 
 pub judge-parts-spec : {M : Type 1} → statement M
 judge-parts-spec =
@@ -64,7 +60,6 @@ judge-parts-spec =
     (tie.spec
     tests-of-requires
     lanes-of-requires
-    slice-aggregate-start-at
     start-at-requires
     slice-aggregate-judge-records
     slice-aggregate-judge-records-2

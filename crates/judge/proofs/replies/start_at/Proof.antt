@@ -5,11 +5,8 @@ use Rattle.judge.proofs.replies.start_at.Tie as tie
 start-requires : tie.Need-start-requires
 start-requires c κs = search needs
 
-alarms-in-requires : tie.Need-alarms-in-requires
-alarms-in-requires c κs = search needs
-
 returns : tie.Need-returns
-returns c = rw (c .before .start .ensures, c .alarms-in .ensures)
+returns c = rw (c .start .ensures)
 
 pub start-at-spec : {M : Type 1} → statement M
-start-at-spec = tie.close (tie.spec start-requires alarms-in-requires returns)
+start-at-spec = tie.close (tie.spec start-requires returns)
