@@ -22,8 +22,9 @@ extern "C" {
 static inline uint32_t buttmitrel_number(uint64_t answer) { return (uint32_t)(answer >> 32); }
 static inline uint32_t buttmitrel_place(uint64_t answer) { return (uint32_t)answer; }
 
-/* How many replies a trace has, and so how long its verdict buffer must be; 0 where its sections are not whole. */
-size_t buttmitrel_reply_count(const uint8_t *trace, size_t trace_len);
+/* How many replies a trace has, and so how long its verdict buffer must be; or the refusal of the walk over its sections (1 to 6,
+ * 11), which is 2^32 or more. */
+uint64_t buttmitrel_reply_count(const uint8_t *trace, size_t trace_len);
 
 /* Judges a trace: 0, with the report of 187 bytes and a verdict (1 to 6) a reply, or the refusal. */
 uint64_t buttmitrel_judge(const uint8_t *trace, size_t trace_len, uint8_t *report, size_t report_len, uint8_t *verdicts,

@@ -23,7 +23,10 @@ static int judge(const uint8_t *trace, size_t len)
 {
     uint8_t report[BUTTMITREL_REPORT];
     int64_t net[2];
-    size_t replies = buttmitrel_reply_count(trace, len);
+    uint64_t count = buttmitrel_reply_count(trace, len);
+    if (buttmitrel_number(count) != 0)
+        return refused(count);
+    size_t replies = (size_t)count;
     uint8_t *verdicts = malloc(replies + 1);
     if (verdicts == NULL)
         return 2;

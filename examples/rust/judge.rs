@@ -7,7 +7,7 @@
 // include/buttmitrel.h says what each promises.
 #[rustfmt::skip]
 extern "C" {
-    fn buttmitrel_reply_count(trace: *const u8, trace_len: usize) -> usize;
+    fn buttmitrel_reply_count(trace: *const u8, trace_len: usize) -> u64;
     fn buttmitrel_judge(trace: *const u8, trace_len: usize, report: *mut u8, report_len: usize, verdicts: *mut u8, verdicts_len: usize) -> u64;
     fn buttmitrel_net_charge(trace: *const u8, trace_len: usize, bounds: *mut i64, bounds_len: usize) -> u64;
     fn buttmitrel_live_begin(cells: u8, idle: u16, rules: *const u8, rules_len: usize, words: *mut u64, words_len: usize, totals: *mut u64, totals_len: usize) -> u64;
@@ -18,17 +18,21 @@ extern "C" {
         report: *mut u8, report_len: usize) -> u64;
 }
 
-// 0 is done; else the number and the place of a refusal.
-fn done(answer: u64) -> Result<(), String> {
-    match answer {
-        0 => Ok(()),
-        _ => Err(format!("refused {} at {}", answer >> 32, answer as u32)),
+// The value of a call; from 2^32 on it is the number and the place of a refusal.
+fn value(answer: u64) -> Result<u32, String> {
+    match answer >> 32 {
+        0 => Ok(answer as u32),
+        number => Err(format!("refused {} at {}", number, answer as u32)),
     }
+}
+
+fn done(answer: u64) -> Result<(), String> {
+    value(answer).map(|_| ())
 }
 
 fn judge(trace: &[u8]) -> Result<(), String> {
     let (t, len) = (trace.as_ptr(), trace.len());
-    let mut verdicts = vec![0u8; unsafe { buttmitrel_reply_count(t, len) }];
+    let mut verdicts = vec![0u8; value(unsafe { buttmitrel_reply_count(t, len) })? as usize];
     let (mut report, mut net) = ([0u8; 187], [0i64; 2]);
     done(unsafe { buttmitrel_judge(t, len, report.as_mut_ptr(), report.len(), verdicts.as_mut_ptr(), verdicts.len()) })?;
     done(unsafe { buttmitrel_net_charge(t, len, net.as_mut_ptr(), net.len()) })?;

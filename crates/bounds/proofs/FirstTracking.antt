@@ -3,7 +3,7 @@ use Prim.Native.Nat.{ℕ, suc, _+_, _≤_, _<_}
 use native.Mathlib.Omega.{arith}
 use mathlib.Core.Path.{_≡_, refl, ap, sym, _∙_, subst}
 use mathlib.Core.Bool.{Bool, true, false, not, cond}
-use lib.Dec.{T}
+use lib.Dec.{T, T-not, not-T}
 use lib.ListN.{getD}
 use Rattle.lists.specs.Lists.{someBelow}
 use Rattle.lists.proofs.Bools.{refuted, both-false, some-intro}
@@ -49,7 +49,8 @@ module _ (r : Rule) (ok : Sound r) (trace : ℕ → Shown) where
 
   possible-is : (k : ℕ) → firstPossible r trace k ≡ firstOf (last r) (greatestAfter r trace) k
   possible-is k =
-      first-same 0 k _ _ (λ t a b. ap (λ f. notClear (f .status)) (bounded r ok trace .flags (suc t)) ∙ flag-not-clear _ _)
+      first-same 0 k _ _ (λ t a b. ap (λ f. notClear (f .status)) (bounded r ok trace .flags (suc t))
+      ∙ flag-not-clear _ _ (λ n. not-T (status (last r) (leastAfter r trace (suc t))) (λ u. T-not (status (last r) (greatestAfter r trace (suc t))) n (status-between (suc t) u))))
 
 as-begins : (trip clear : Bool) (r : Rule) (trace : ℕ → Shown) → afterAs trip clear r trace 0 ≡ 0
 unfolding afterAs

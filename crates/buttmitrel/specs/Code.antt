@@ -17,10 +17,10 @@ abbrev pub codeOf : {A : Type 0} → Answer A → ℕ
 codeOf (answer done) = 0
 codeOf (refused number place) = refusalCode number place
 
--- A verdict, or the refusal.
-abbrev pub verdictCode : Answer ℕ → ℕ
-verdictCode (answer verdict) = verdict
-verdictCode (refused number place) = refusalCode number place
+-- The value of a call, or its refusal.
+abbrev pub valueCode : Answer ℕ → ℕ
+valueCode (answer value) = value
+valueCode (refused number place) = refusalCode number place
 
 -- The answer of a call that is lent a list for two numbers: 15 for another length, after its own refusals.
 abbrev pub intoTwo : {A : Type 0} → List ℤ → Answer A → Answer A

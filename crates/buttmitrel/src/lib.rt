@@ -6,12 +6,13 @@ ghost use Rattle.pec.specs.Reply.{sealAnswer, sealed, checkAnswer};
 ghost use Rattle.trace.specs.Sections.{walkAnswer, replyCount};
 ghost use Rattle.totals.specs.Totals.{netAnswer};
 ghost use Rattle.judge.specs.Judge.{judgeAnswer, reportAfter, verdictsAfter};
-ghost use Rattle.buttmitrel.specs.Code.{codeOf, verdictCode, intoTwo, twoAfter};
+ghost use Rattle.buttmitrel.specs.Code.{codeOf, valueCode, intoTwo, twoAfter};
 use judge::Judged;
 use pec::Checked;
 use pec::Sealed;
 use refusals::Refusal;
 use totals::NetCharge;
+use trace::ReplyCount;
 
 // A refusal as one number.
 pub fn code(why: Refusal) -> u64
@@ -33,12 +34,15 @@ pub extern "C" fn buttmitrel_judge(s: &[u8], report: &mut [u8], verdicts: &mut [
     }
 }
 
-// The reply count of a trace; 0 where its sections are not whole.
+// The reply count of a trace, or the refusal of the walk over its sections.
 #[no_mangle]
-pub extern "C" fn buttmitrel_reply_count(s: &[u8]) -> usize
-    ensures { λ n. ⌜ n ≡ replyCount (walkAnswer (now (s .entry))) ⌝ }
+pub extern "C" fn buttmitrel_reply_count(s: &[u8]) -> u64
+    ensures { λ n. ⌜ n ≡ valueCode (replyCount (walkAnswer (now (s .entry)))) ⌝ }
 {
-    trace::reply_count(s)
+    match trace::reply_count(s) {
+        ReplyCount::Replies(n) => n as u64,
+        ReplyCount::Refused(why) => code(why),
+    }
 }
 
 // Writes the six bytes of a read-word reply.
@@ -56,7 +60,7 @@ pub extern "C" fn buttmitrel_seal(command: u8, word: u16, reply: &mut [u8]) -> u
 // 0 for a whole reply, 1 for a wrong address byte, 2 for a wrong packet error code.
 #[no_mangle]
 pub extern "C" fn buttmitrel_check(reply: &[u8]) -> u64
-    ensures { λ n. ⌜ n ≡ verdictCode (checkAnswer (now (reply .entry))) ⌝ }
+    ensures { λ n. ⌜ n ≡ valueCode (checkAnswer (now (reply .entry))) ⌝ }
 {
     match pec::check(reply) {
         Checked::Intact => 0,

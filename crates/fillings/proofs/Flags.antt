@@ -23,22 +23,26 @@ use Rattle.fillings.proofs.Exact.{after-le, sound, some-possible, compl
 held-none : (a b : Bool) → flagOf a b ≡ Held → b ≡ false
 held-none true true e = let z : _≡_ {A = ℕ} 0 1 = cc in absurd (omega arith)
 held-none true false e = refl
-held-none false b e = let z : _≡_ {A = ℕ} 0 1 = cc in absurd (omega arith)
+held-none false true e = let z : _≡_ {A = ℕ} 0 1 = cc in absurd (omega arith)
+held-none false false e = refl
 
 clear-none : (a b : Bool) → flagOf a b ≡ Clear → a ≡ false
 clear-none true true e = let z : _≡_ {A = ℕ} 0 1 = cc in absurd (omega arith)
 clear-none true false e = let z : _≡_ {A = ℕ} 0 1 = cc in absurd (omega arith)
 clear-none false b e = refl
 
-unknown-both : (a b : Bool) → flagOf a b ≡ Unknown → T a × T b
-unknown-both true true e = (tt, tt)
-unknown-both true false e = let z : _≡_ {A = ℕ} 0 1 = cc in absurd (omega arith)
-unknown-both false b e = let z : _≡_ {A = ℕ} 0 1 = cc in absurd (omega arith)
+-- where there is a state, it has the property or it has not
+unknown-both : (a b : Bool) → (T (not a) → T b) → flagOf a b ≡ Unknown → T a × T b
+unknown-both true true some e = (tt, tt)
+unknown-both true false some e = let z : _≡_ {A = ℕ} 0 1 = cc in absurd (omega arith)
+unknown-both false true some e = let z : _≡_ {A = ℕ} 0 1 = cc in absurd (omega arith)
+unknown-both false false some e = absurd (some tt)
 
-pub flag-not-clear : (a b : Bool) → notClear (flagOf a b) ≡ a
-flag-not-clear true true = refl
-flag-not-clear true false = refl
-flag-not-clear false b = refl
+pub flag-not-clear : (a b : Bool) → (T (not a) → T b) → notClear (flagOf a b) ≡ a
+flag-not-clear true true some = refl
+flag-not-clear true false some = refl
+flag-not-clear false true some = refl
+flag-not-clear false false some = absurd (some tt)
 
 is-held-held : (f : Flag) → T (isHeld f) → f ≡ Held
 is-held-held Clear t = absurd t
@@ -84,11 +88,11 @@ module _ (m : ℕ) (p : List Bool) where
   clear-in-all test e s h a =
       not-T (test s) (λ t. subst T (clear-none (meets test) (meets (λ i. not (test i))) e) (state-meets test s h a t))
 
-  pub in-all-clear : (test : ℕ → Bool) → InAll m p (λ s. not (test s)) → flag m test p ≡ Clear
+  pub in-all-clear : (test : ℕ → Bool) (s : ℕ) → s ≤ m → T (has p s) → InAll m p (λ s. not (test s)) → flag m test p ≡ Clear
   unfolding flag
-  in-all-clear test all =
-      ap (λ b. flagOf b (meets (λ i. not (test i))))
-      (refuted (meets test) (λ t. let (i, l, b, u) = meets-state test t in T-not (test i) (all i l b) u))
+  in-all-clear test s h a all =
+      ap₂ flagOf (refuted (meets test) (λ t. let (i, l, b, u) = meets-state test t in T-not (test i) (all i l b) u))
+      (is-true (meets (λ i. not (test i))) (state-meets (λ i. not (test i)) s h a (all s h a)))
 
 module _ (r : Rule) (ok : Sound r) (trace : ℕ → Shown) (k : ℕ) where
   abbrev pub met : (ℕ → Bool) → Bool
@@ -118,15 +122,22 @@ module _ (r : Rule) (ok : Sound r) (trace : ℕ → Shown) (k : ℕ) where
   pub clear-exactly : (test : ℕ → Bool) → (flag (last r) test (possible r trace k) ≡ Clear) ↔ Always r trace k (λ s. not (test s))
   clear-exactly test = (
     (λ e f fills. clear-in-all (last r) (possible r trace k) test e (after r trace f k) (after-le r trace f k) (sound r trace f k)),
-    (λ all. in-all-clear (last r) (possible r trace k) test (always-in-all (λ s. not (test s)) all)),
+    (λ all. let (s, h, a) = some-possible r trace k in in-all-clear (last r) (possible r trace k) test s h a (always-in-all (λ s. not (test s)) all)),
   )
+
+  -- some state meets a test or its opposite
+  meets-either : (test : ℕ → Bool) → T (not (met test)) → T (met (λ s. not (test s)))
+  meets-either test n =
+      let (s, h, a) = some-possible r trace k in
+      state-meets (last r) (possible r trace k) (λ i. not (test i)) s h a
+      (not-T (test s) (λ t. T-not (met test) n (state-meets (last r) (possible r trace k) test s h a t)))
 
   -- unknown exactly if it holds under one and not under another
   pub unknown-exactly : (test : ℕ → Bool)
       → (flag (last r) test (possible r trace k) ≡ Unknown) ↔ (Sometimes r trace k test × Sometimes r trace k (λ s. not (test s)))
   unfolding flag
   unknown-exactly test = (
-    (λ e. let (a, b) = unknown-both (met test) (met (λ s. not (test s))) e in (meets-some test a, meets-some (λ s. not (test s)) b)),
+    (λ e. let (a, b) = unknown-both (met test) (met (λ s. not (test s))) (meets-either test) e in (meets-some test a, meets-some (λ s. not (test s)) b)),
     (λ w. ap₂ flagOf (is-true (met test) (some-meets test (w .0 .0) (w .0 .2)))
         (is-true (met (λ s. not (test s))) (some-meets (λ s. not (test s)) (w .1 .0) (w .1 .2)))),
   )
@@ -135,8 +146,8 @@ module _ (r : Rule) (ok : Sound r) (trace : ℕ → Shown) (k : ℕ) where
   not-clear-exactly : (test : ℕ → Bool) → T (notClear (flag (last r) test (possible r trace k))) ↔ Sometimes r trace k test
   unfolding flag
   not-clear-exactly test = (
-    (λ t. meets-some test (subst T (flag-not-clear (met test) (met (λ s. not (test s)))) t)),
-    (λ w. subst T (sym (flag-not-clear (met test) (met (λ s. not (test s))))) (some-meets test (w .0) (w .2))),
+    (λ t. meets-some test (subst T (flag-not-clear (met test) (met (λ s. not (test s))) (meets-either test)) t)),
+    (λ w. subst T (sym (flag-not-clear (met test) (met (λ s. not (test s))) (meets-either test))) (some-meets test (w .0) (w .2))),
   )
 
   is-held-exactly : (test : ℕ → Bool) → T (isHeld (flag (last r) test (possible r trace k))) ↔ Always r trace k test

@@ -42,9 +42,9 @@ more-seen r trace more (suc k) h = go (evaluated (r .row) k) (more-seen r trace 
 pub held-fewer : (m : ℕ) (test : ℕ → Bool) (p q : List Bool) (s : ℕ) → s ≤ m → T (has p s) → Fewer p q → flag m test q ≡ Held → flag m test p ≡ Held
 held-fewer m test p q s h a f e = in-all-held m p test s h a (λ i l b. held-in-all m q test e i l (f i b))
 
--- What reads clear over a set reads so over fewer states.
-pub clear-fewer : (m : ℕ) (test : ℕ → Bool) (p q : List Bool) → Fewer p q → flag m test q ≡ Clear → flag m test p ≡ Clear
-clear-fewer m test p q f e = in-all-clear m p test (λ i l b. clear-in-all m q test e i l (f i b))
+-- And what reads clear.
+pub clear-fewer : (m : ℕ) (test : ℕ → Bool) (p q : List Bool) (s : ℕ) → s ≤ m → T (has p s) → Fewer p q → flag m test q ≡ Clear → flag m test p ≡ Clear
+clear-fewer m test p q s h a f e = in-all-clear m p test s h a (λ i l b. clear-in-all m q test e i l (f i b))
 
 -- What reads held or clear reads so where more is seen.
 module _ (r : Rule) (trace more : ℕ → Shown) (k : ℕ) (h : MoreSeen trace more k) (test : ℕ → Bool) where
@@ -54,4 +54,6 @@ module _ (r : Rule) (trace more : ℕ → Shown) (k : ℕ) (h : MoreSeen trace m
       held-fewer (last r) test (possible r more k) (possible r trace k) s l a (more-seen r trace more k h)
 
   pub clear-more : flag (last r) test (possible r trace k) ≡ Clear → flag (last r) test (possible r more k) ≡ Clear
-  clear-more = clear-fewer (last r) test (possible r more k) (possible r trace k) (more-seen r trace more k h)
+  clear-more =
+      let (s, l, a) = some-possible r more k in
+      clear-fewer (last r) test (possible r more k) (possible r trace k) s l a (more-seen r trace more k h)

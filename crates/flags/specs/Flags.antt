@@ -10,11 +10,12 @@ numberOf Clear = 0
 numberOf Held = 1
 numberOf Unknown = 2
 
--- The flag of a property, from whether a possible state has it and whether a possible state has it not.
+-- The flag of a property, from whether a possible state has it and whether a possible state has it not. Of no state nothing is known.
 abbrev pub flagOf : Bool → Bool → Flag
 flagOf true true = Unknown
 flagOf true false = Held
-flagOf false other = Clear
+flagOf false true = Clear
+flagOf false false = Unknown
 
 -- The flag of an output with one more driver: held if one is held, clear if all are clear, else unknown.
 abbrev pub withNext : Flag → Flag → Flag

@@ -23,7 +23,7 @@ pub fn number(f: Flag) -> u8
     }
 }
 
-// The flag of a property, from whether a possible state has it and whether one has not.
+// The flag of a property, from whether a possible state has it and whether one has not. Of no state nothing is known.
 pub fn flag_of(some: bool, other: bool) -> Flag
     ensures { λ f. ⌜ f ≡ flagOf some other ⌝ }
 {
@@ -33,7 +33,10 @@ pub fn flag_of(some: bool, other: bool) -> Flag
         }
         return Flag::Held;
     }
-    Flag::Clear
+    if other {
+        return Flag::Clear;
+    }
+    Flag::Unknown
 }
 
 // An output with one more driver.

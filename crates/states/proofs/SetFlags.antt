@@ -38,13 +38,6 @@ some-same n k f g to fro =
     (λ t. let (i, h, u) = some-elim n f t in let (j, l, v) = to i h u in some-intro k g j l v)
     (λ t. let (j, h, u) = some-elim k g t in let (i, l, v) = fro j h u in some-intro n f i l v)
 
-pub status-off : (w : List ℕ) → Clear ≡ flag 0 (status 0) (statesOf w 0)
-unfolding flag
-status-off w =
-    ap (λ (b : Bool). flagOf b (someBelow 1 (λ s. has (statesOf w 0) s && not (status 0 s))))
-    (sym (refuted (someBelow 1 (λ s. has (statesOf w 0) s && status 0 s)) (λ t.
-    let (s, h, u) = some-elim 1 (λ s. has (statesOf w 0) s && status 0 s) t in and-right (has (statesOf w 0) s) (status 0 s) u)))
-
 -- Status is active in some state of a set exactly if the top state is in it.
 top-active : (m : ℕ) (p : List Bool) → 0 < m → has p m ≡ someBelow (suc m) (λ s. has p s && status m s)
 top-active m p pos =
@@ -86,11 +79,6 @@ module _ (w : List ℕ) (m : ℕ) (fits : m ≤ 256) where
   status-right low held some pos lo h e =
       flag-by m (status m) P held some (h ∙ active pos) (e ∙ some-states w low m (omega arith) lo ∙ inactive pos)
 
-  pub status-clear : 0 < m → at w m ≡ false → Clear ≡ flag m (status m) P
-  unfolding flag
-  status-clear pos h =
-      ap (λ (b : Bool). flagOf b (someBelow (suc m) (λ s. has P s && not (status m s)))) (sym h ∙ active pos)
-
   -- a state above 0 is possible
   alerted : (low high : List ℕ) → Below w (m + 1) low → Alerting low high → someBelow 320 (at high) ≡ someBelow (suc m) (λ s. has P s && alert s)
   alerted low high lo al =
@@ -130,6 +118,14 @@ module _ (w : List ℕ) (m : ℕ) (fits : m ≤ 256) where
   pub alert-right : (low high : List ℕ) (some start : Bool) → Below w (m + 1) low → Alerting low high → some ≡ someBelow 320 (at high) → start ≡ at w 0
       → flagOf some start ≡ flag m alert P
   alert-right low high some start lo al e h = flag-by m alert P some start (e ∙ alerted low high lo al) (h ∙ quiet)
+
+-- Of a rule that is switched off status is never held.
+pub status-off : (w : List ℕ) (start : Bool) → start ≡ at w 0 → flagOf false start ≡ flag 0 (status 0) (statesOf w 0)
+status-off w start e =
+    flag-by 0 (status 0) (statesOf w 0) false start
+    (sym (refuted (someBelow 1 (λ s. has (statesOf w 0) s && status 0 s)) (λ t.
+    let (s, h, u) = some-elim 1 (λ s. has (statesOf w 0) s && status 0 s) t in and-right (has (statesOf w 0) s) (status 0 s) u)))
+    (e ∙ quiet w 0 (omega arith))
 
 -- The lowest word halved and doubled has lost bit 0.
 pub alerting-set : (w : List ℕ) → 0 < length w → Alerting w (set w 0 (getD w 0 0 / 2 * 2))

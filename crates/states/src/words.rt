@@ -232,13 +232,10 @@ pub(crate) fn status_of(w: [u64; 5], top: usize) -> Flag
     ensures { λ r. ⌜ r ≡ flag top (status top) (statesOf w top) ⌝ }
 {
     if top == 0 {
-        return Flag::Clear;
+        return flags::flag_of(false, test(w, 0));
     }
-    if test(w, top) {
-        let low = below(w, top);
-        return flags::flag_of(true, some(low));
-    }
-    Flag::Clear
+    let low = below(w, top);
+    flags::flag_of(test(w, top), some(low))
 }
 
 // The states above 0.

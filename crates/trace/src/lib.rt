@@ -1,6 +1,6 @@
 // A trace taken apart and checked (paper 01, 'The trace', 'Refusal numbers').
 ghost use mathlib.Core.Path.{_≡_};
-ghost use Rattle.trace.specs.Sections.{walkAnswer, answerOfWalk, replyCount};
+ghost use Rattle.trace.specs.Sections.{walkAnswer, answerOfWalk, replyCount, answerOfCount};
 ghost use Rattle.trace.specs.Acceptance.{acceptAnswer, answerOfAccept, ticksOf, layoutOf, settingsIn};
 
 mod coverage;
@@ -81,13 +81,18 @@ pub fn walk_sections(s: &[u8]) -> Walk
     })
 }
 
-// The reply count of a trace, which its verdict buffer has to have; 0 where the sections are not whole.
-pub fn reply_count(s: &[u8]) -> usize
-    ensures { λ n. ⌜ n ≡ replyCount (walkAnswer (now (s .entry))) ⌝ }
+pub enum ReplyCount {
+    Replies(usize),
+    Refused(Refusal),
+}
+
+// The reply count of a trace, which its verdict buffer has to have, or the refusal of the walk over the sections.
+pub fn reply_count(s: &[u8]) -> ReplyCount
+    ensures { λ r. ⌜ answerOfCount r ≡ replyCount (walkAnswer (now (s .entry))) ⌝ }
 {
     match walk_sections(s) {
-        Walk::Refused(why) => 0,
-        Walk::Whole(l) => l.reply_count,
+        Walk::Refused(why) => ReplyCount::Refused(why),
+        Walk::Whole(l) => ReplyCount::Replies(l.reply_count),
     }
 }
 

@@ -1,7 +1,7 @@
 use mathlib.Core.Path.{sym, ap, _∙_}
 use borrow.Author.Needs.{needs}
 use Rattle.pec.specs.Reply.{answerOfCheck}
-use Rattle.buttmitrel.specs.Code.{verdictCode}
+use Rattle.buttmitrel.specs.Code.{valueCode}
 use Rattle.buttmitrel.proofs.buttmitrel_check.Statement.{statement}
 use Rattle.buttmitrel.proofs.buttmitrel_check.Tie as tie
 
@@ -24,17 +24,17 @@ code-requires : tie.Need-code-requires
 code-requires c κs = search needs
 
 returns : tie.Need-returns
-returns c = ap verdictCode (sym (ap answerOfCheck (c .enum-told .given .1)) ∙ c .before .before .check .ensures)
+returns c = ap valueCode (sym (ap answerOfCheck (c .enum-told .given .1)) ∙ c .before .before .check .ensures)
 
 returns-2 : tie.Need-returns-2
-returns-2 c = ap verdictCode (sym (ap answerOfCheck (c .enum-told2 .given .1)) ∙ c .before .before .check .ensures)
+returns-2 c = ap valueCode (sym (ap answerOfCheck (c .enum-told2 .given .1)) ∙ c .before .before .check .ensures)
 
 returns-3 : tie.Need-returns-3
-returns-3 c = ap verdictCode (sym (ap answerOfCheck (c .enum-told3 .given .1)) ∙ c .before .before .check .ensures)
+returns-3 c = ap valueCode (sym (ap answerOfCheck (c .enum-told3 .given .1)) ∙ c .before .before .check .ensures)
 
 returns-4 : tie.Need-returns-4
 returns-4 c =
-    c .code .ensures ∙ ap verdictCode (sym (ap answerOfCheck (c .before .before .why .given .1)) ∙ c .before .before .before .before .check .ensures)
+    c .code .ensures ∙ ap valueCode (sym (ap answerOfCheck (c .before .before .why .given .1)) ∙ c .before .before .before .before .check .ensures)
 
 pub buttmitrel-check-spec : {M : Type 1} → statement M
 buttmitrel-check-spec =
