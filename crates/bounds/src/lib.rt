@@ -1,5 +1,6 @@
 // The least and the greatest possible state of the sixteen rules, and the first ticks of the report, which follow from them
-// (paper 01, 'Three-way outputs'). Of each rule two lanes of 8 bits are kept: the loops over all rules have no branch.
+// (paper 01, 'Three-way outputs'). Of each rule two lanes of 8 bits are kept: the loops that test and move all rules at a seen
+// tick have no branch.
 ghost use mathlib.Core.Path.{_≡_};
 ghost use mathlib.Core.Bool.{cond};
 ghost use lib.Dec.{T};

@@ -1,4 +1,4 @@
-// One evaluation of a rule.
+// One evaluation of a rule, and how many there are in a run of ticks.
 ghost use mathlib.Core.Path.{_≡_};
 ghost use mathlib.Core.Bool.{_&&_};
 ghost use Prim.Native.Nat.{suc, _-_};

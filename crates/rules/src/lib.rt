@@ -1,5 +1,5 @@
-// The sixteen rules (paper 01, 'The sixteen rules'): their table, what they read of a sample, and what one evaluation of a
-// rule finds.
+// The sixteen rules (paper 01, 'The sixteen rules'): their table, what they read of a sample, what one evaluation of a rule
+// finds, and how many there are in a run of ticks.
 ghost use mathlib.Core.Path.{_≡_};
 ghost use Rattle.rules.specs.Samples.{cellCount};
 ghost use Rattle.rules.specs.Table.{rows, rowAt};

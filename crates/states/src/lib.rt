@@ -1,5 +1,6 @@
-// The possible states of all rules (paper 01, 'The form for each place'): one record by value with a flat array, the steps on
-// it, and the flags that it gives. The steps also work where the words stand, on a slice that the caller lends.
+// The possible states of all rules, which the live feed keeps (paper 01, 'The form for each place'): one record by value with a
+// flat array, the steps on it, and the flags that it gives. The steps also work where the words stand, on a slice that the
+// caller lends.
 ghost use mathlib.Core.Path.{_≡_};
 ghost use Rattle.states.specs.Records.{fresh};
 ghost use Rattle.states.specs.Steps.{afterSeen, afterUnseen};
