@@ -28,7 +28,7 @@ use Rattle.fillings.specs.Flags.{statusFlag}
 use Rattle.fillings.proofs.Witness.{blank, blank-carried}
 use Rattle.ticks.specs.Traces.{Trace, traceOf, shown, Accepted}
 use Rattle.ticks.proofs.AcceptedBytes.{accepted}
-use Rattle.ticks.proofs.CoveredOnce.{covered-once}
+use Rattle.ticks.proofs.CoveredOnce.{ticks-counted, covered-once}
 use Rattle.demands.specs.Verdicts.{tickOf, verdictOn, traceVerdicts}
 use Rattle.demands.specs.Reading.{ruleIn, Fills, UnderEvery, UnderSome}
 use Rattle.demands.specs.promises.Demand3.{outputAt}
@@ -51,6 +51,7 @@ totals-judged tr ok c =
       chargeOut = report-out tr (out-fits tr ok c) ∙ once .chargedOut;
       unseen = report-unseen tr (unseen-fit tr ok) ∙ once .unseen;
       covered = report-ticks tr (omega arith);
+      ticks = ticks-counted tr ok;
     }
 
 -- A flag that is not unknown.

@@ -4,28 +4,34 @@ use native.Mathlib.Omega.{arith}
 use mathlib.Core.Path.{_≡_, refl, sym, ap, _∙_, subst}
 use mathlib.Core.Logic.{_↔_, inl, inr}
 use mathlib.Core.Bool.{Bool, not}
+use mathlib.Core.List.{map}
 use lib.Signed.{leZ}
 use lib.Dec.{T}
 use Rattle.rules.specs.Samples.{Sample}
-use Rattle.rules.specs.Table.{rows}
+use Rattle.rules.specs.Table.{rows, rowAt}
 use Rattle.rules.specs.Evaluation.{alert, status}
 use Rattle.flags.specs.declared.Flag.{Flag}
 use Rattle.flags.specs.declared.Flag.the-variants.{Clear, Held, Unknown}
 use Rattle.flags.specs.declared.Output.{Output}
 use Rattle.flags.specs.Flags.{numberOf}
 use Rattle.flags.specs.Outputs.{drivers, activeOf}
+use Rattle.flags.proofs.OutputLaws.{held-by-one, clear-by-all}
 use Rattle.fillings.specs.Fillings.{last}
+use Rattle.fillings.specs.Flags.{statusFlag}
+use Rattle.fillings.specs.Outputs.{statuses}
 use Rattle.fillings.specs.promises.Demand3.{First, OutputSound}
 use Rattle.fillings.proofs.Outputs.{output-sound}
 use Rattle.fillings.proofs.Charge.{charge-bounded}
 use Rattle.ticks.specs.Traces.{Trace, traceOf, shown, inHole, Accepted}
 use Rattle.ticks.proofs.AcceptedBytes.{accepted}
-use Rattle.demands.specs.Reading.{ruleIn, Fills, stateUnder, SureAt}
-use Rattle.demands.specs.promises.Demand3.{RuleJudged, activeUnder, OutputsJudged, leastNet, greatestNet, ChargeJudged, TraceJudged, Demand3}
+use Rattle.demands.specs.Verdicts.{traceVerdicts}
+use Rattle.demands.specs.Reading.{statusAt, ruleIn, Fills, stateUnder, SureAt}
+use Rattle.demands.specs.promises.Demand3.{RuleJudged, outputAt, activeUnder, verdictAt, OutputsJudged, leastNet, greatestNet, ChargeJudged, TraceJudged, Demand3}
 use Rattle.demands.proofs.ReportReads.{report-possible, report-held}
 use Rattle.demands.proofs.TotalBounds.{ticks-fit}
 use Rattle.demands.proofs.FillingsOfTrace.{rule-known, within, within-fills, within-alike, filling-fills, after-within, net-within, every, always, some, sometimes, sure-at, sure}
 use Rattle.demands.proofs.EndReads.{end-judged}
+use Rattle.demands.proofs.Drivers.{some-driver, every-driver}
 use Rattle.demands.proofs.CutReads.{tabulate-same, alert-at, status-at, charge-at, discharge-at, fuse-at}
 
 -- The number of a flag tells the flag.
@@ -104,14 +110,37 @@ module _ (tr : Trace) (ok : Accepted tr) where
   output-known : (o : Output) → OutputSound (drivers o) (tr .config) (shown tr)
   output-known o = output-sound (drivers o) (tr .config) (ok .rules) (shown tr)
 
+  held-by-number : (o : Output) (t : ℕ) → (outputAt tr o t ≡ Held) ↔ ((i : ℕ) × (i < 16) × T (drivers o (rowAt i)) × (statusAt tr i t ≡ 1))
+  held-by-number o t =
+      let (a, b) = held-by-one (drivers o) rows (statuses (tr .config) (shown tr) (suc t)) in
+      let (c, d) = some-driver (drivers o) (λ f. f ≡ Held) _ rows 16 (λ i. statusFlag (ruleIn tr i) (shown tr) (suc t)) (omega arith) in (
+        λ e. let (i, l, u, h) = c (a e) in (i, l, u, status-at tr ok t i l ∙ ap numberOf h),
+        λ (i, l, u, h). b (d (i, l, u, number-held _ (sym (status-at tr ok t i l) ∙ h))),
+      )
+
+  clear-by-number : (o : Output) (t : ℕ) → (outputAt tr o t ≡ Clear) ↔ ((i : ℕ) → i < 16 → T (drivers o (rowAt i)) → statusAt tr i t ≡ 0)
+  clear-by-number o t =
+      let (a, b) = clear-by-all (drivers o) rows (statuses (tr .config) (shown tr) (suc t)) in
+      let (c, d) = every-driver (drivers o) (λ f. f ≡ Clear) _ rows 16 (λ i. statusFlag (ruleIn tr i) (shown tr) (suc t)) (omega arith) in (
+        λ e i l u. status-at tr ok t i l ∙ ap numberOf (c (a e) i l u),
+        λ all. b (d (λ i l u. number-clear _ (sym (status-at tr ok t i l) ∙ all i l u))),
+      )
+
+  verdicts-judged : traceVerdicts tr ≡ map (verdictAt tr) (tr .replies)
+  unfolding traceVerdicts
+  verdicts-judged = refl
+
   pub outputs-judged : OutputsJudged tr
   outputs-judged =
       record {
         whenHeld = λ o t l e f fills. subst T (active-within o f t l) (output-known o .whenHeld (suc t) (within tr f) (within-fills tr f fills) e);
         whenClear = λ o t l e f fills. subst (λ b. T (not b)) (active-within o f t l) (output-known o .whenClear (suc t) (within tr f) (within-fills tr f fills) e);
+        heldByOne = λ o t l. held-by-number o t;
+        clearByAll = λ o t l. clear-by-number o t;
         charge = λ t l. charge-at tr ok t;
         discharge = λ t l. discharge-at tr ok t;
         fuse = λ t l. fuse-at tr ok t;
+        verdicts = verdicts-judged;
       }
 
   pub charge-judged : ChargeJudged tr

@@ -3,6 +3,7 @@ pub mod TotalBounds
 pub mod FillingsOfTrace
 pub mod CutReads
 pub mod EndReads
+pub mod Drivers
 pub mod Demand3
 pub mod OneRun
 pub mod Demand2

@@ -12,14 +12,11 @@ use Rattle.trace.specs.Records.{Stamped}
 use Rattle.fillings.specs.Fillings.{Rule, Shown, filled, evaluate, after}
 use Rattle.ticks.specs.Traces.{Trace, shown, shownIn, Accepted}
 use Rattle.ticks.specs.inner.Places.{Place, done, sample}
+use Rattle.ticks.specs.promises.Promises.{overHoles}
+use Rattle.ticks.proofs.CoveredOnce.{ticks-counted}
 use Rattle.ticks.proofs.Places.{place-start, shown-first, shown-later}
 use Rattle.demands.specs.Reading.{ruleIn, stateUnder}
 use Rattle.demands.specs.promises.Demand2.{runFrom, runState}
-
--- From a place with no hole left, each sample left has one tick.
-places-long : {m : ℕ} (xs : List Stamped) (e : ℕ) → Place m [] xs e → m ≡ e + length xs
-places-long [] e done = omega arith
-places-long (x ∷ xs) e (sample a b c p) = let l = places-long xs (suc e) p in omega arith
 
 -- The run over the next k samples takes the state under a filling k ticks on.
 run-on : {m : ℕ} (r : Rule) (trace : ℕ → Shown) (f : ℕ → Sample) (k : ℕ) (xs : List Stamped) (e : ℕ) → Place m [] xs e
@@ -40,7 +37,8 @@ module _ (tr : Trace) (ok : Accepted tr) (none : tr .holes ≡ []) where
   start = subst (λ hs. Place (tr .ticks) hs (tr .samples) 0) none (place-start tr ok)
 
   pub ticks-are : tr .ticks ≡ length (tr .samples)
-  ticks-are = places-long (tr .samples) 0 start ∙ zero-add (length (tr .samples))
+  unfolding overHoles
+  ticks-are = ticks-counted tr ok ∙ ap (λ hs. length (tr .samples) + overHoles hs) none ∙ add-zero (length (tr .samples))
 
   pub one-run : (i t : ℕ) → t < tr .ticks → (f : ℕ → Sample) → stateUnder tr i f t ≡ runState tr i t
   unfolding after

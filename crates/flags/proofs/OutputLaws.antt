@@ -8,19 +8,7 @@ use Rattle.rules.specs.declared.Row.{Row}
 use Rattle.flags.specs.declared.Flag.{Flag}
 use Rattle.flags.specs.declared.Flag.the-variants.{Clear, Held, Unknown}
 use Rattle.flags.specs.Flags.{numberOf, withNext}
-use Rattle.flags.specs.Outputs.{outputOf}
-
--- One of the rules that drive has a status of which P holds.
-unfoldable pub SomeDriver : (Row → Bool) → (Flag → Type 0) → List Row → List Flag → Type 0
-SomeDriver drives P [] fs = ⊥
-SomeDriver drives P (row ∷ rows) [] = ⊥
-SomeDriver drives P (row ∷ rows) (f ∷ fs) = (T (drives row) × P f) ⊎ SomeDriver drives P rows fs
-
--- P holds of the status of every rule that drives.
-unfoldable pub EveryDriver : (Row → Bool) → (Flag → Type 0) → List Row → List Flag → Type 0
-EveryDriver drives P [] fs = Unit {0}
-EveryDriver drives P (row ∷ rows) [] = Unit {0}
-EveryDriver drives P (row ∷ rows) (f ∷ fs) = (T (drives row) → P f) × EveryDriver drives P rows fs
+use Rattle.flags.specs.Outputs.{outputOf, SomeDriver, EveryDriver}
 
 same-number : {f g : Flag} → f ≡ g → T (eqb (numberOf f) (numberOf g))
 same-number {f} e = subst (λ (g : Flag). T (eqb (numberOf f) (numberOf g))) e (eqb-refl (numberOf f))

@@ -2,7 +2,8 @@
 use Prim.Native.Nat.{ℕ, _/_, _%_}
 use mathlib.Core.Bool.{Bool, false, not, cond, _||_}
 use mathlib.Core.List.{List, [], _∷_, map}
-use lib.Dec.{eqb}
+use mathlib.Core.Logic.{_⊎_}
+use lib.Dec.{T, eqb}
 use Rattle.rules.specs.declared.Row.{Row}
 use Rattle.flags.specs.declared.Flag.{Flag}
 use Rattle.flags.specs.declared.Flag.the-variants.{Clear}
@@ -51,3 +52,15 @@ unfoldable pub activeOf : (Row → Bool) → List Row → List Bool → Bool
 activeOf drives [] bs = false
 activeOf drives (row ∷ rows) [] = false
 activeOf drives (row ∷ rows) (b ∷ bs) = cond (drives row) (b || activeOf drives rows bs) (activeOf drives rows bs)
+
+-- One of the rules that drive has a status of which P holds.
+unfoldable pub SomeDriver : (Row → Bool) → (Flag → Type 0) → List Row → List Flag → Type 0
+SomeDriver drives P [] fs = ⊥
+SomeDriver drives P (row ∷ rows) [] = ⊥
+SomeDriver drives P (row ∷ rows) (f ∷ fs) = (T (drives row) × P f) ⊎ SomeDriver drives P rows fs
+
+-- P holds of the status of every rule that drives.
+unfoldable pub EveryDriver : (Row → Bool) → (Flag → Type 0) → List Row → List Flag → Type 0
+EveryDriver drives P [] fs = Unit {0}
+EveryDriver drives P (row ∷ rows) [] = Unit {0}
+EveryDriver drives P (row ∷ rows) (f ∷ fs) = (T (drives row) → P f) × EveryDriver drives P rows fs

@@ -7,6 +7,7 @@ use native.Mathlib.Omega.{arith}
 use native.Mathlib.Nat.{zero-add}
 use lib.IntN.{ℤ}
 use lib.Dec.{T}
+use lib.ListN.{length}
 use borrow.Author.Tests.{le-leb, lt-leb, eq-eqb, ne-eqb}
 use Rattle.lists.proofs.Bools.{by-order}
 use Rattle.trace.specs.Records.{Hole, Stamped}
@@ -103,6 +104,21 @@ module _ (all : List Stamped) where
       let r : unseenAt e ≡ 0 = ap ofUnseen (s e (omega arith) ∙ shown-first x xs e a) in
       let k = unseen-left hs xs (suc e) p (ascends-later hs e o c) (same-later x xs e a s) in
       omega arith
+
+-- The samples left and the ticks of the holes left are the ticks left.
+count-left : {m : ℕ} (hs : List Hole) (xs : List Stamped) (e : ℕ) → Place m hs xs e → Ascending e hs → m ≡ e + (length xs + overHoles hs)
+unfolding overHoles
+count-left [] [] e done o = omega arith
+count-left (h ∷ hs) xs e (hole a b c p) o =
+    let k = count-left hs xs (suc (h .last)) p (o .3) in
+    let z : e ≡ h .first = omega (arith, o .0) in
+    omega arith
+count-left hs (x ∷ xs) e (sample a b c p) o =
+    let k = count-left hs xs (suc e) p (ascends-later hs e o c) in
+    omega arith
+
+pub ticks-counted : (tr : Trace) → Accepted tr → tr .ticks ≡ length (tr .samples) + overHoles (tr .holes)
+ticks-counted tr ok = count-left (tr .holes) (tr .samples) 0 (place-start tr ok) (ascending (tr .holes) 0 0 (ok .holes)) ∙ zero-add _
 
 pub covered-once : (tr : Trace) → Accepted tr → CoveredOnce tr
 unfolding total

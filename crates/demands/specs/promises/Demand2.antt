@@ -1,5 +1,5 @@
 -- Demand 2 of an accepted trace: with no hole there is one run, and flags, outputs, first ticks and verdicts are those of the run; the totals are sums over the records.
-use Prim.Native.Nat.{ℕ, suc, _<_}
+use Prim.Native.Nat.{ℕ, suc, _+_, _<_}
 use mathlib.Core.Path.{_≡_}
 use mathlib.Core.Bool.{Bool, cond}
 use mathlib.Core.List.{List, [], _∷_, map}
@@ -77,6 +77,8 @@ pub record TotalsJudged (tr : Trace) : Type 0 where
   pub chargeOut : u64At (traceReport tr) 171 ≡ overSamples outward (tr .samples)
   pub unseen : u32At (traceReport tr) 179 ≡ overHoles (tr .holes)
   pub covered : u32At (traceReport tr) 183 ≡ tr .ticks
+  -- the ticks are the samples and the ticks of the holes
+  pub ticks : tr .ticks ≡ length (tr .samples) + overHoles (tr .holes)
 
 -- Demand 2: of all bytes that are accepted.
 abbrev pub Demand2 : Type 0

@@ -3,26 +3,30 @@ use Prim.Native.Nat.{ℕ, suc, _+_, _*_, _≤_, _<_}
 use mathlib.Core.Path.{_≡_}
 use mathlib.Core.Logic.{_↔_}
 use mathlib.Core.Bool.{Bool, not}
-use mathlib.Core.List.{List}
+use mathlib.Core.List.{List, map}
 use lib.IntN.{ℤ}
 use lib.Signed.{leZ}
 use lib.Dec.{T}
 use Rattle.refusals.specs.Refusals.{answer}
+use Rattle.rules.specs.Table.{rowAt}
 use Rattle.rules.specs.Samples.{Sample, readingsOf}
 use Rattle.rules.specs.Evaluation.{trips, clears, alert, status, evaluated, evaluations}
 use Rattle.flags.specs.declared.Flag.{Flag}
 use Rattle.flags.specs.declared.Flag.the-variants.{Clear, Held}
 use Rattle.flags.specs.declared.Output.{Output}
-use Rattle.flags.specs.declared.Output.the-variants.{ChargeOpen, DischargeOpen, Fuse}
+use Rattle.flags.specs.declared.Output.the-variants.{ChargeOpen, DischargeOpen, Fuse, TerminateChargeAlarm, OverTempAlarm, TerminateDischargeAlarm}
 use Rattle.flags.specs.Flags.{numberOf}
 use Rattle.flags.specs.Outputs.{drivers}
 use Rattle.fillings.specs.Fillings.{last, seen}
 use Rattle.fillings.specs.Outputs.{output, active}
 use Rattle.fillings.specs.Charge.{netCharge, leastCharge, greatestCharge}
 use Rattle.fillings.specs.promises.Demand3.{First, Tripping}
+use Rattle.verdicts.specs.Verdicts.{verdictOf}
+use Rattle.trace.specs.Records.{Reply}
 use Rattle.trace.specs.Acceptance.{Parsed, acceptAnswer}
 use Rattle.ticks.specs.Traces.{Trace, traceOf, shown, inHole}
 use Rattle.ticks.specs.Cut.{cutAt}
+use Rattle.demands.specs.Verdicts.{tickOf, traceVerdicts}
 use Rattle.demands.specs.Reading.{byteOf, byteAt, alertAt, statusAt, possibleFrom, heldFrom, ruleIn, Fills, stateUnder, UnderEvery, UnderSome, SureAt}
 
 -- What is promised of rule i of a trace.
@@ -59,15 +63,33 @@ outputAt tr o t = output (drivers o) (tr .config) (shown tr) (suc t)
 abbrev pub activeUnder : Trace → Output → (ℕ → Sample) → ℕ → Bool
 activeUnder tr o f t = active (drivers o) (tr .config) (shown tr) f (suc t)
 
+-- The verdict on a reply, from the sample of its tick and the bits 4000h, 1000h and 0800h after it.
+abbrev pub verdictAt : Trace → Reply → ℕ
+verdictAt tr r =
+    verdictOf (tickOf (shown tr (r .tick)))
+    (record {
+      «terminate_charge» = outputAt tr TerminateChargeAlarm (r .tick);
+      «over_temp» = outputAt tr OverTempAlarm (r .tick);
+      «terminate_discharge» = outputAt tr TerminateDischargeAlarm (r .tick);
+    })
+    (r .bytes)
+
 -- What is promised of the outputs and of the status bits.
 pub record OutputsJudged (tr : Trace) : Type 0 where
   -- what reads held or clear is so under every filling
   pub whenHeld : (o : Output) (t : ℕ) → t < tr .ticks → outputAt tr o t ≡ Held → (f : ℕ → Sample) → Fills tr f → T (activeUnder tr o f t)
   pub whenClear : (o : Output) (t : ℕ) → t < tr .ticks → outputAt tr o t ≡ Clear → (f : ℕ → Sample) → Fills tr f → T (not (activeUnder tr o f t))
+  -- held exactly if a rule that drives it reads held in status at that tick, clear exactly if all that drive it read clear
+  pub heldByOne : (o : Output) (t : ℕ) → t < tr .ticks
+      → (outputAt tr o t ≡ Held) ↔ ((i : ℕ) × (i < 16) × T (drivers o (rowAt i)) × (statusAt tr i t ≡ 1))
+  pub clearByAll : (o : Output) (t : ℕ) → t < tr .ticks
+      → (outputAt tr o t ≡ Clear) ↔ ((i : ℕ) → i < 16 → T (drivers o (rowAt i)) → statusAt tr i t ≡ 0)
   -- C, D and fuse in the report
   pub charge : (t : ℕ) → t < tr .ticks → byteAt tr t 160 ≡ numberOf (outputAt tr ChargeOpen t)
   pub discharge : (t : ℕ) → t < tr .ticks → byteAt tr t 161 ≡ numberOf (outputAt tr DischargeOpen t)
   pub fuse : (t : ℕ) → t < tr .ticks → byteAt tr t 162 ≡ numberOf (outputAt tr Fuse t)
+  -- the verdict on each reply
+  pub verdicts : traceVerdicts tr ≡ map (verdictAt tr) (tr .replies)
 
 -- The net charge of a trace under a filling, and its bounds.
 abbrev pub netUnder : Trace → (ℕ → Sample) → ℤ

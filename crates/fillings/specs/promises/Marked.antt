@@ -1,12 +1,15 @@
--- Paper 01, 'Marked cases': the fourteen cases, computed from the definitions, and what the paper says of them.
+-- Paper 01, 'Marked cases': the fourteen cases and the flags of case 8, computed from the definitions, and what the paper says of them.
 use Prim.Native.Nat.{ℕ, suc}
 use mathlib.Core.Bool.{Bool, true, false}
 use mathlib.Core.List.{List, [], _∷_}
 use lib.IntN.{pos}
 use lib.ListN.{replicate, length, getD}
 use Rattle.rules.specs.Table.{rowAt}
-use Rattle.fillings.specs.Fillings.{Shown, seen, unseen}
+use Rattle.flags.specs.declared.Flag.{Flag}
+use Rattle.flags.specs.declared.Flag.the-variants.{Held, Unknown}
+use Rattle.fillings.specs.Fillings.{Rule, Shown, seen, unseen}
 use Rattle.fillings.specs.PossibleStates.{possible}
+use Rattle.fillings.specs.Flags.{alertFlag, statusFlag}
 
 -- The states of a set, counted from i.
 abbrev pub statesFrom : ℕ → List Bool → List ℕ
@@ -18,14 +21,15 @@ statesFrom i (false ∷ p) = statesFrom (suc i) p
 abbrev pub cells : ℕ → ℕ → Shown
 cells v b = seen (record { current = pos 0; board = pos b; volts = replicate 3 v; temps = replicate 3 (pos 0) })
 
+-- Rule i with its numbers.
+abbrev pub ruleWith : ℕ → ℕ → ℕ → ℕ → Rule
+ruleWith i threshold recovery time =
+    record { cells = 3; idle = 0; row = rowAt i; setting = record { threshold = pos threshold; recovery = pos recovery; time = time } }
+
 -- The possible states of rule i, with its numbers, at the end of a list of ticks.
 abbrev pub statesAfter : ℕ → ℕ → ℕ → ℕ → List Shown → List ℕ
 statesAfter i threshold recovery time ticks =
-    statesFrom 0
-    (possible
-    (record { cells = 3; idle = 0; row = rowAt i; setting = record { threshold = pos threshold; recovery = pos recovery; time = time } })
-    (λ k. getD ticks k unseen)
-    (length ticks))
+    statesFrom 0 (possible (ruleWith i threshold recovery time) (λ k. getD ticks k unseen) (length ticks))
 
 -- Highest cell 4,300: above the threshold.
 abbrev pub S : Shown
@@ -84,3 +88,18 @@ markedCases =
     ∷ (0 ∷ [])
     ∷ (0 ∷ [])
     ∷ []
+
+-- Alert and status of rule 0 with the cases' numbers, at the end of a list of ticks.
+abbrev pub flags0 : List Shown → List Flag
+flags0 ticks =
+    alertFlag (ruleWith 0 4200 4100 3) (λ k. getD ticks k unseen) (length ticks)
+    ∷ statusFlag (ruleWith 0 4200 4100 3) (λ k. getD ticks k unseen) (length ticks)
+    ∷ []
+
+-- The flags of case 8 from the definitions.
+abbrev pub caseFlags : List Flag
+caseFlags = flags0 (S ∷ S ∷ H ∷ S ∷ [])
+
+-- What the paper says: alert held, status unknown.
+abbrev pub markedFlags : List Flag
+markedFlags = Held ∷ Unknown ∷ []
