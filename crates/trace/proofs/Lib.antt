@@ -12,4 +12,5 @@ pub mod RecordBytes
 pub mod PartRecords
 pub mod WrittenSections
 pub mod WholeParts
+pub mod ReadingEnds
 pub mod Readings
