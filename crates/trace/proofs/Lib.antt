@@ -9,5 +9,8 @@ pub mod Outcomes
 pub mod EachBytes
 pub mod SampleBytes
 pub mod RecordBytes
+pub mod PartRecords
 pub mod WrittenSections
 pub mod WholeParts
+pub mod ReadingEnds
+pub mod Readings

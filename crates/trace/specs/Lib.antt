@@ -5,3 +5,4 @@ pub mod Acceptance
 pub mod Next
 pub mod Writing
 pub mod inner
+pub mod promises
