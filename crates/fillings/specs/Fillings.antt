@@ -35,7 +35,7 @@ pub data Shown : Type 0 where
   seen : Sample → Shown
   unseen : Shown
 
--- A filling gives each unseen tick one sample of the trace's layout. What it gives at other ticks is never looked at.
+-- A filling gives each unseen tick one sample of the trace's layout. What it gives at seen ticks is never looked at.
 abbrev pub Filling : ℕ → (ℕ → Shown) → (ℕ → Sample) → Type 0
 Filling n trace f = (t : ℕ) → trace t ≡ unseen → Carried n (f t)
 
