@@ -6,7 +6,13 @@
  * where the length is 0 (then the pointer may be any that is not null), and no buffer that is written may overlap another one of
  * the same call. The functions keep no state, allocate nothing and may run in several threads at once.
  *
- * A refusal is its number times 2^32 plus its place (paper 01, 'Refusal numbers'); a refused call leaves every buffer as it was.
+ * A refusal is its number times 2^32 plus its place (paper 01, 'Refusal numbers'; docs/FORMAT.md has each with its cause and cure); a
+ * refused call leaves every buffer as it was. A value is below 2^32.
+ *
+ * A wrong length means the same in every function. A list that holds a state (rules, words and totals of a running feed) and is not as
+ * long as said here is no state: 16, before anything else. Where paper 01 gives a length a refusal of its own, that is it: 12 for a
+ * report, 13 for verdicts, 6 for the rules of a beginning, 15 for a reply and for volts and temps. Any other list (bounds, and the
+ * words and totals that a beginning fills) has 15, after the paper's refusals.
  */
 #ifndef BUTTMITREL_H
 #define BUTTMITREL_H
@@ -43,11 +49,13 @@ uint64_t buttmitrel_check(const uint8_t *reply, size_t reply_len);
  * lends it to each call:
  *   cells, idle, rules   what the feed began with: the cell count, the idle current in mA and the sixteen rules as the 160 bytes of
  *                        a trace's rule section. The same at each call.
- *   words                BUTTMITREL_WORDS x uint64_t: the possible states of the rules
+ *   words                BUTTMITREL_WORDS x uint64_t: the possible states of the rules, five words a rule from rule 0 on, the lowest
+ *                        first. State s of rule i is possible if bit s % 64 of words[5 * i + s / 64] is 1; a rule of time T has the
+ *                        states 0 to T: above 0 it alerts, and at T its status is active.
  *   totals               BUTTMITREL_TOTALS x uint64_t: charge in and charge out in mA seconds, unseen ticks, ticks. The last is
  *                        the expected tick.
- * A call may be handed any of these whatever: lists that are no state (paper 01, refusal 16) are refused, and so are other lengths
- * of rules, words and totals but at the beginning. A refused call leaves words and totals as they were. */
+ * A call may be handed any of these whatever: what is no state (a rule with no possible state or one above its time, rules outside
+ * their limits, totals that so many ticks can't give) is refusal 16, and so are other lengths of rules, words and totals. */
 #define BUTTMITREL_WORDS 80
 #define BUTTMITREL_TOTALS 4
 #define BUTTMITREL_RULES 160

@@ -1,6 +1,6 @@
 // The least and the greatest possible state of the sixteen rules, and the first ticks of the report, which follow from them
 // (paper 01, 'Three-way outputs'). Of each rule two lanes of 8 bits are kept: the loops that test and move all rules at a seen
-// tick have no branch.
+// tick have no branch. A part of the judge of a trace, its only caller.
 ghost use mathlib.Core.Path.{_≡_};
 ghost use mathlib.Core.Bool.{cond};
 ghost use lib.Dec.{T};
@@ -64,8 +64,8 @@ pub fn lanes_of(settings: Settings) -> [u8; 32]
     lanes
 }
 
-// Moves the states by a seen tick, where they stand, and notes the first ticks. Lists of other lengths stay as they are, and so
-// do all where the readings have a sum that no pack has.
+// Moves the states by a seen tick, where they stand, and notes the first ticks. A part of the judge, which lends thirty-two of
+// each: lists of other lengths stay as they are, and so do all where the readings have a sum that no pack has.
 pub fn see(
     tests: &[i32; 64],
     lanes: &[u8; 32],
@@ -96,8 +96,8 @@ pub fn see(
     }
 }
 
-// Moves the states by the unseen ticks from first to last, where they stand, and notes the first ticks. Lists of other lengths
-// stay as they are.
+// Moves the states by the unseen ticks from first to last, where they stand, and notes the first ticks. A part of the judge, as
+// `see`: lists of other lengths stay as they are.
 pub fn miss(lanes: &[u8; 32], first: u32, last: u32, states: &mut [u8], firsts: &mut [u32])
     ensures states { λ _. ⌜ now (states .exit) ≡ cond (sized (now (states .entry)) (now (firsts .entry))) (statesMissed (now (lanes .entry)) first last (now (states .entry))) (now (states .entry)) ⌝ }
     ensures firsts { λ _. ⌜ now (firsts .exit) ≡ cond (sized (now (states .entry)) (now (firsts .entry))) (firstsMissed (now (lanes .entry)) first last (now (states .entry)) (now (firsts .entry))) (now (firsts .entry)) ⌝ }
@@ -118,7 +118,7 @@ pub fn miss(lanes: &[u8; 32], first: u32, last: u32, states: &mut [u8], firsts: 
     }
 }
 
-// The alert and the status of every rule.
+// The alert and the status of every rule. A part of the judge: of states that are not thirty-two all flags read unknown.
 pub fn flags_in(lanes: &[u8; 32], states: &[u8]) -> Flags
     ensures { λ r. ⌜ r .of ≡ flagsOfStates (now (lanes .entry)) (now (states .entry)) ⌝ }
 {

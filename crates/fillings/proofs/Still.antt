@@ -15,7 +15,6 @@ use Rattle.lists.proofs.Bools.{and-left, and-right, both, or-left, or-right, or
 use Rattle.rules.specs.Evaluation.{evaluated, evaluations}
 use Rattle.fillings.specs.Fillings.{Rule, last, Shown, unseen}
 use Rattle.fillings.specs.PossibleStates.{has, anything, moves, next, possible, unseenTimes}
-use Rattle.fillings.specs.promises.Demand3.{Still}
 use Rattle.fillings.proofs.Next.{next-length, unseen-length, reached, by-up, by-restart, by-leave, by-stay}
 
 module _ (m : ℕ) (recovers : Bool) where
@@ -119,7 +118,7 @@ module _ (m : ℕ) (recovers : Bool) where
             (λ s l. ⊎-elim (λ z. subst (λ i. T (has (set m) i)) (sym z) (tops t)) (λ h. fills t m s h h) (eq-or-lt-of-le l))
         go true d false e = quiet (kept n e)
 
-pub still : Still
+pub still : (k m : ℕ) (recovers : Bool) (p : List Bool) → length p ≡ suc m → unseenTimes k m recovers p ≡ unseenTimes (min k m) m recovers p
 still k m recovers p n = go (leb k m) refl
   where
     go : (b : Bool) → leb k m ≡ b → unseenTimes k m recovers p ≡ unseenTimes (min k m) m recovers p

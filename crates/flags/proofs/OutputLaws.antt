@@ -3,12 +3,25 @@ use mathlib.Core.Path.{_≡_, refl, subst}
 use mathlib.Core.Bool.{Bool, true, false, cond}
 use mathlib.Core.List.{List, [], _∷_}
 use mathlib.Core.Logic.{_↔_, _⊎_, inl, inr, ⊎-elim}
+use native.Mathlib.Omega.{arith}
 use lib.Dec.{T, eqb, eqb-refl}
 use Rattle.rules.specs.declared.Row.{Row}
 use Rattle.flags.specs.declared.Flag.{Flag}
 use Rattle.flags.specs.declared.Flag.the-variants.{Clear, Held, Unknown}
 use Rattle.flags.specs.Flags.{numberOf, withNext}
 use Rattle.flags.specs.Outputs.{outputOf, SomeDriver, EveryDriver}
+
+-- The number tells the flag.
+pub by-number : (f g : Flag) → numberOf f ≡ numberOf g → f ≡ g
+by-number Clear Clear e = refl
+by-number Clear Held e = absurd (omega (arith, e))
+by-number Clear Unknown e = absurd (omega (arith, e))
+by-number Held Clear e = absurd (omega (arith, e))
+by-number Held Held e = refl
+by-number Held Unknown e = absurd (omega (arith, e))
+by-number Unknown Clear e = absurd (omega (arith, e))
+by-number Unknown Held e = absurd (omega (arith, e))
+by-number Unknown Unknown e = refl
 
 same-number : {f g : Flag} → f ≡ g → T (eqb (numberOf f) (numberOf g))
 same-number {f} e = subst (λ (g : Flag). T (eqb (numberOf f) (numberOf g))) e (eqb-refl (numberOf f))

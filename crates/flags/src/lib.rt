@@ -25,7 +25,7 @@ pub fn number(f: Flag) -> u8
 
 // The flag of a property, from whether a possible state has it and whether one has not. Of no state nothing is known.
 pub fn flag_of(some: bool, other: bool) -> Flag
-    ensures { λ f. ⌜ f ≡ flagOf some other ⌝ }
+    ensures { λ f. ⌜ numberOf f ≡ numberOf (flagOf some other) ⌝ }
 {
     if some {
         if other {
@@ -100,7 +100,7 @@ fn with_rule(driving: bool, status: Flag, rest: Flag) -> Flag
 
 // An output, from the statuses of the rules that drive it.
 pub fn output_of(flags: Flags, o: Output) -> Flag
-    ensures { λ f. ⌜ f ≡ outputOf (drivers o) rows (statusesOf (flags .of)) ⌝ }
+    ensures { λ f. ⌜ numberOf f ≡ numberOf (outputOf (drivers o) rows (statusesOf (flags .of))) ⌝ }
 {
     let table = rules::all_rows();
     let mut found = Flag::Clear;

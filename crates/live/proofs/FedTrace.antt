@@ -23,6 +23,7 @@ use Rattle.trace.specs.Acceptance.{Parsed, acceptAnswer}
 use Rattle.fillings.specs.Fillings.{Config, seen, unseen}
 use Rattle.fillings.specs.Charge.{inward, outward, ofSeen, ofUnseen, total, unseenTicks}
 use Rattle.flags.specs.declared.RuleFlags.{RuleFlags}
+use Rattle.flags.specs.Flags.{numberOf}
 use Rattle.flags.specs.Outputs.{outputOf, drivers, statusesOf}
 use Rattle.rules.specs.Table.{rows}
 use Rattle.report.specs.declared.Totals.{Totals}
@@ -202,7 +203,7 @@ module _ (s : List ℕ) (w : Parsed) (h : acceptAnswer s ≡ answer w) where
       let f = tracks (tr .config) short (shown tr) .reads (tr .ticks) in
       record {
         flags = rw g f;
-        outputs = λ o. rw g (ap (λ (fs : List RuleFlags). answer (outputOf (drivers o) rows (statusesOf fs))) f);
+        outputs = λ o. rw g (ap (λ (fs : List RuleFlags). answer (numberOf (outputOf (drivers o) rows (statusesOf fs)))) f);
         totals = rw g;
         net = rw g;
       }

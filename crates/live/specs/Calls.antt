@@ -9,10 +9,10 @@ use Rattle.refusals.specs.Refusals.{Answer, answer, refused, refusal, orKept}
 use Rattle.rules.specs.Table.{rows}
 use Rattle.rules.specs.Samples.{Sample, cellCount}
 use Rattle.limits.specs.Limits.{limitsAnswer, settingsOf, off}
-use Rattle.flags.specs.declared.Flag.{Flag}
 use Rattle.flags.specs.declared.Flag.the-variants.{Unknown}
 use Rattle.flags.specs.declared.RuleFlags.{RuleFlags}
 use Rattle.flags.specs.declared.Output.{Output}
+use Rattle.flags.specs.Flags.{numberOf}
 use Rattle.flags.specs.Outputs.{outputOf, drivers, statusesOf}
 use Rattle.report.specs.declared.Totals.{Totals}
 use Rattle.states.specs.Readings.{allFlags}
@@ -70,12 +70,12 @@ ofGood s a = cond (good s) (answer a) (refused 16 0)
 abbrev pub flagsRead : Live → List RuleFlags
 flagsRead s = cond (good s) (allFlags (s .settings .of) (s .states .words)) (tabulate 16 (λ i. record { alert = Unknown; status = Unknown }))
 
--- An output: C, D, fuse, and the three status bits.
-abbrev pub outputRead : Live → Output → Answer Flag
-outputRead s o = ofGood s (outputOf (drivers o) rows (statusesOf (allFlags (s .settings .of) (s .states .words))))
+-- The number of an output's flag: C, D, fuse, and the three status bits.
+abbrev pub outputRead : Live → Output → Answer ℕ
+outputRead s o = ofGood s (numberOf (outputOf (drivers o) rows (statusesOf (allFlags (s .settings .of) (s .states .words)))))
 
-abbrev pub answerOfOutput : OutputRead → Answer Flag
-answerOfOutput (outputs.Reads f) = answer f
+abbrev pub answerOfOutput : OutputRead → Answer ℕ
+answerOfOutput (outputs.Reads f) = answer (numberOf f)
 answerOfOutput (outputs.Refused why) = refusal why
 
 -- Charge in and out, unseen ticks, ticks.

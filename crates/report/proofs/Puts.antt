@@ -6,8 +6,6 @@ use native.Mathlib.Omega.{arith}
 use native.Mathlib.Numerals.{add-one}
 use lib.ListN.{length, take, set, length-set, length-append}
 use lib.Seq.{take-suc-set, length-take-le, take-at, sets, sets-eq, length-sets}
-use Rattle.flags.specs.declared.Flag.{Flag}
-use Rattle.flags.specs.Flags.{numberOf}
 use Rattle.bytes_le.specs.Writing.{bytesOf, putAt}
 use Rattle.bytes_le.proofs.ByteLists.{length-bytes}
 use Rattle.bytes_le.proofs.Puts.{put-fits}
@@ -49,6 +47,6 @@ put-to {s} {t} {a} {b} {c} {bs} p e = record { holds = ap (λ (k : ℕ). take k 
 pub put-as : {s t : List ℕ} {a b : ℕ} {bs cs : List ℕ} → Put s t a b bs → bs ≡ cs → Put s t a b cs
 put-as {s} {t} {a} {b} {bs} {cs} p e = record { holds = p .holds ∙ ap (λ (x : List ℕ). take a s ++ x) e; long = p .long }
 
--- The number of a flag.
-pub put-number : {s t : List ℕ} {a b : ℕ} {f g : Flag} → Put s t a b (numberOf f ∷ []) → f ≡ g → Put s t a b (numberOf g ∷ [])
-put-number p e = put-as p (ap (λ (h : Flag). numberOf h ∷ []) e)
+-- One byte, written otherwise.
+pub put-number : {s t : List ℕ} {a b m n : ℕ} → Put s t a b (m ∷ []) → m ≡ n → Put s t a b (n ∷ [])
+put-number p e = put-as p (ap (λ (k : ℕ). k ∷ []) e)

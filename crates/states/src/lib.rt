@@ -1,6 +1,6 @@
 // The possible states of all rules, which the live feed keeps (paper 01, 'The form for each place'): one record by value with a
-// flat array, the steps on it, and the flags that it gives. The steps also work where the words stand, on a slice that the
-// caller lends.
+// flat array, the steps on it, and the flags that it gives. A part of the live feed, which asks `valid` first: the other calls
+// answer for any words, and of a rule with no possible state the flags read unknown.
 ghost use mathlib.Core.Path.{_≡_};
 ghost use Rattle.states.specs.Records.{fresh};
 ghost use Rattle.states.specs.Steps.{afterSeen, afterUnseen};
@@ -14,11 +14,11 @@ mod validity;
 mod words;
 
 use flags::Flags;
-pub use reading::flags_in;
+use reading::flags_in;
 use rules::Readings;
 use rules::Settings;
-pub use seen::see;
-pub use unseen::miss;
+use seen::see;
+use unseen::miss;
 pub use validity::valid;
 
 // Five words a rule: state s of rule i is bit s of the words from 5 i on, the lowest first.

@@ -30,7 +30,7 @@ fn flags_of_rule(words: &[u64], i: usize, setting: Setting) -> RuleFlags
 }
 
 // The alert and the status of every rule.
-pub fn flags_in(words: &[u64], settings: Settings) -> Flags
+pub(crate) fn flags_in(words: &[u64], settings: Settings) -> Flags
     ensures { λ r. ⌜ r .of ≡ allFlags (settings .of) (now (words .entry)) ⌝ }
 {
     let unknown = RuleFlags {

@@ -61,7 +61,7 @@ fn step_rule(
 }
 
 // Moves all rules by a seen tick, where the record stands.
-pub fn see(words: &mut [u64], settings: Settings, idle: u16, tick: u32, readings: Readings)
+pub(crate) fn see(words: &mut [u64], settings: Settings, idle: u16, tick: u32, readings: Readings)
     ensures { λ _. ⌜ now (words .exit) ≡ afterSeen (settings .of) idle tick readings (now (words .entry)) ⌝ }
 {
     if words.len() != 80 {

@@ -34,7 +34,7 @@ fn miss_rule(words: &mut [u64], i: usize, row: Row, setting: Setting, first: u32
 }
 
 // Moves all rules by the unseen ticks from first to last, where the record stands.
-pub fn miss(words: &mut [u64], settings: Settings, first: u32, last: u32)
+pub(crate) fn miss(words: &mut [u64], settings: Settings, first: u32, last: u32)
     ensures { λ _. ⌜ now (words .exit) ≡ afterUnseen (settings .of) first last (now (words .entry)) ⌝ }
 {
     if words.len() != 80 {

@@ -38,7 +38,7 @@ fn valid_rule(words: &[u64], i: usize, setting: Setting) -> bool
     found
 }
 
-// Whether every rule has a possible state and none above its top.
+// Whether every rule has a possible state and none above its top. Words that are not eighty are no record.
 pub fn valid(words: &[u64], settings: Settings) -> bool
     ensures { λ r. ⌜ r ≡ validRecord (settings .of) (now (words .entry)) ⌝ }
 {

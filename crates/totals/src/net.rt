@@ -32,7 +32,8 @@ pub fn can_count(charge_in: u64, charge_out: u64, unseen: u32, ticks: u32) -> bo
     and(and(charge_in <= most, charge_out <= most), unseen <= ticks)
 }
 
-// The bounds from totals that a caller holds; refusal 16 for totals that no such number of ticks gives.
+// The bounds from totals that a caller holds. A part of the live feed, whose good states have totals that their ticks can give: any
+// others are refusal 16, as a state that has them is.
 pub fn net_of_totals(charge_in: u64, charge_out: u64, unseen: u32, ticks: u32) -> NetCharge
     ensures { λ r. ⌜ answerOfNet r ≡ netOf «charge_in» «charge_out» unseen ticks ⌝ }
 {

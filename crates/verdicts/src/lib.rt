@@ -190,7 +190,7 @@ fn judge_command(tick: Tick, a: Alarms, command: u8, word: u16) -> Verdict
     Verdict::OtherCommand
 }
 
-// The verdict on a reply of six bytes at a tick.
+// The verdict on a reply at a tick. A part of the judge, which lends six bytes: any other number is refusal 15, as in `pec::check`.
 pub fn judge_reply(tick: Tick, a: Alarms, reply: &[u8]) -> Verdict
     ensures { λ v. ⌜ answerOfVerdict v ≡ verdictAnswer tick a (now (reply .entry)) ⌝ }
 {

@@ -1,18 +1,16 @@
 -- Demand 3 over any sequence of seen and unseen ticks: what is promised of a rule, of the outputs, and of the net charge.
-use Prim.Native.Nat.{ℕ, suc, _≤_, _<_, min}
+use Prim.Native.Nat.{ℕ, suc, _≤_, _<_}
 use mathlib.Core.Path.{_≡_}
 use mathlib.Core.Logic.{_⊎_, _↔_}
 use mathlib.Core.Bool.{Bool, not}
-use mathlib.Core.List.{List}
 use lib.Signed.{leZ}
 use lib.Dec.{T}
-use lib.ListN.{length}
 use Rattle.rules.specs.declared.Row.{Row}
 use Rattle.rules.specs.Samples.{Sample, readingsOf}
 use Rattle.rules.specs.Evaluation.{trips, clears, alert, status, evaluated, evaluations}
 use Rattle.flags.specs.declared.Flag.the-variants.{Clear, Held, Unknown}
 use Rattle.fillings.specs.Fillings.{Rule, last, Shown, seen, unseen, Filling, after, Config}
-use Rattle.fillings.specs.PossibleStates.{has, possible, unseenTimes}
+use Rattle.fillings.specs.PossibleStates.{has, possible}
 use Rattle.fillings.specs.Flags.{alertFlag, statusFlag, firstPossible, firstHeld}
 use Rattle.fillings.specs.Outputs.{output, active}
 use Rattle.fillings.specs.Charge.{netCharge, leastCharge, greatestCharge}
@@ -81,7 +79,3 @@ pub record ChargeBounded (n : ℕ) (trace : ℕ → Shown) (k : ℕ) : Type 0 wh
   pub below : (f : ℕ → Sample) → Filling n trace f → T (leZ (netCharge trace f k) (greatestCharge trace k))
   pub reachedLeast : (f : ℕ → Sample) × Filling n trace f × (netCharge trace f k ≡ leastCharge trace k)
   pub reachedGreatest : (f : ℕ → Sample) × Filling n trace f × (netCharge trace f k ≡ greatestCharge trace k)
-
--- k unseen evaluations equal the smaller of k and the top state of them.
-abbrev pub Still : Type 0
-Still = (k m : ℕ) (recovers : Bool) (p : List Bool) → length p ≡ suc m → unseenTimes k m recovers p ≡ unseenTimes (min k m) m recovers p

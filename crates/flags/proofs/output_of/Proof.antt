@@ -1,8 +1,9 @@
-use mathlib.Core.Path.{_≡_}
+use mathlib.Core.Path.{_≡_, ap}
 use native.Mathlib.Omega.{arith}
 use lib.ListN.{length}
 use borrow.Author.Needs.{needs}
 use Rattle.rules.proofs.Rows.{row-of}
+use Rattle.flags.specs.Flags.{numberOf}
 use Rattle.flags.specs.Outputs.{drivers}
 use Rattle.flags.proofs.Driven.{Driven, start, next, whole, long}
 use Rattle.flags.proofs.output_of.Statement.{statement}
@@ -53,7 +54,7 @@ loop-again c =
     next _ (turn .loop .inv) h sixteen (row-of _ _ _ (turn .before .all-rows .ensures) (omega (arith, turn .loop .inv .within))) (c .before .drives .ensures) (c .with-rule .ensures)
 
 returns : tie.Need-returns Inv-loop μ-loop
-returns c = whole (c .before .loop .inv) (c .loop-test .left)
+returns c = ap numberOf (whole (c .before .loop .inv) (c .loop-test .left))
 
 pub output-of-spec : {M : Type 1} → statement M
 output-of-spec =

@@ -13,6 +13,7 @@ use Rattle.trace.specs.Acceptance.{Parsed, acceptAnswer}
 use Rattle.states.specs.Readings.{allFlags}
 use Rattle.states.specs.promises.Tracking.{recordAt}
 use Rattle.flags.specs.declared.Output.{Output}
+use Rattle.flags.specs.Flags.{numberOf}
 use Rattle.flags.specs.Outputs.{drivers}
 use Rattle.fillings.specs.Fillings.{Config}
 use Rattle.fillings.specs.Flags.{flagsAt}
@@ -75,7 +76,7 @@ endOf tr =
 -- What the reading calls answer at the end of a trace is what the trace gives.
 pub record ReadsTrace (tr : Trace) : Type 0 where
   pub flags : flagsRead (endOf tr) ≡ flagsAt (tr .config) (shown tr) (tr .ticks)
-  pub outputs : (o : Output) → outputRead (endOf tr) o ≡ answer (output (drivers o) (tr .config) (shown tr) (tr .ticks))
+  pub outputs : (o : Output) → outputRead (endOf tr) o ≡ answer (numberOf (output (drivers o) (tr .config) (shown tr) (tr .ticks)))
   pub totals : totalsRead (endOf tr) ≡ answer (totalsAt (shown tr) (tr .ticks))
   pub net : netRead (endOf tr) ≡ answer (record { least = leastCharge (shown tr) (tr .ticks); greatest = greatestCharge (shown tr) (tr .ticks) })
 

@@ -1,4 +1,5 @@
 use borrow.Author.Needs.{needs}
+use Rattle.flags.proofs.OutputLaws.{by-number}
 use Rattle.judge.proofs.replies.alarms_in.Statement.{statement}
 use Rattle.judge.proofs.replies.alarms_in.Tie as tie
 
@@ -16,7 +17,7 @@ output-of-requires-3 c κs = search needs
 
 returns : tie.Need-returns
 returns c =
-    rw (c .output-of3 .ensures, c .before .output-of2 .ensures, c .before .before .output-of .ensures, c .before .before .before .flags-in .ensures)
+    rw (by-number _ _ (c .output-of3 .ensures), by-number _ _ (c .before .output-of2 .ensures), by-number _ _ (c .before .before .output-of .ensures), c .before .before .before .flags-in .ensures)
 
 pub alarms-in-spec : {M : Type 1} → statement M
 alarms-in-spec =

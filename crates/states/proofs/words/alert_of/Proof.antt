@@ -1,6 +1,7 @@
 use mathlib.Core.Path.{_∙_}
 use Rattle.states.proofs.SetFlags.{alert-right}
 use borrow.Author.Needs.{needs}
+use Rattle.flags.proofs.OutputLaws.{by-number}
 use Rattle.states.proofs.words.alert_of.Statement.{statement}
 use Rattle.states.proofs.words.alert_of.Tie as tie
 
@@ -25,7 +26,7 @@ flag-of-requires c κs = search needs
 returns : tie.Need-returns
 returns c =
     let a = c .before .before .before .before .before .args in
-    c .flag-of .ensures
+    by-number _ _ (c .flag-of .ensures)
     ∙ alert-right (a .w) (a .top) (c .before .before .before .before .before .pre) (c .before .before .before .before .below .result) (c .before .before .before .alerting .result) (c .before .before .some .result) (c .before .test .result)
     (c .before .before .before .before .below .ensures) (c .before .before .before .alerting .ensures) (c .before .before .some .ensures) (c .before .test .ensures)
 
