@@ -1,6 +1,6 @@
 #!/usr/bin/env bash
 # The edits of crates/*/must-fail, and those of must-fail/more, which tools/try_edits tries: each still says something of the code.
-# Every `old:` text stands in its file once, and the text that replaces it is another.
+# Every `old:` text stands in its file once, the text that replaces it is another, and docs/CLAIMS.md names the edit.
 set -u
 edits=0 failed=0
 
@@ -24,6 +24,8 @@ for edit in crates/*/must-fail/*.edit crates/*/must-fail/more/*.edit; do
         esac
     done <"$edit"
     [ "$pairs" -gt 0 ] || bad "it has no pair of texts"
+    name=${edit##*/}
+    grep -qF -- "\`${name%.edit}\`" docs/CLAIMS.md || bad "docs/CLAIMS.md does not name it"
 done
 
 echo "edits_apply: $edits edits"
