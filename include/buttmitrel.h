@@ -1,5 +1,5 @@
-/* The judge of a battery bus analyzer, for programs in C (and Rust): link target/staticlib/libbuttmitrel.a, and for the live feed
- * target/staticlib/libbuttmitrel_live.a (`rt staticlib buttmitrel`, `rt staticlib buttmitrel_live`).
+/* The judge of a battery bus analyzer, for programs in C (and Rust): `./buttmitrel install` installs this header with the library, and
+ * `cc prog.c $(pkg-config --cflags --libs buttmitrel)` links it.
  *
  * Each function answers for any bytes and any lengths; what it answers and what it writes is proved for the Rattle code behind it.
  * Nothing proves the caller: it must pass pointers to as many readable (or writable) elements as the length beside them says, also

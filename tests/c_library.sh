@@ -13,10 +13,10 @@ for command in cc rustc; do
     fi
 done
 mkdir -p "$out" || exit 1
-. tools/static_library.sh
-static_library buttmitrel buttmitrel_live || exit 1
-cc -std=c99 -Wall -Wextra -Werror -I include -o "$out/judge_c" examples/c/judge.c target/staticlib/libbuttmitrel.a target/staticlib/libbuttmitrel_live.a || exit 1
-rustc --edition 2021 -D warnings -o "$out/judge_rust" examples/rust/judge.rs -L target/staticlib -l static=buttmitrel -l static=buttmitrel_live || exit 1
+. tools/library.sh
+library || exit 1
+cc -std=c99 -Wall -Wextra -Werror -I include -o "$out/judge_c" examples/c/judge.c target/lib/libbuttmitrel.a || exit 1
+rustc --edition 2021 -D warnings -o "$out/judge_rust" examples/rust/judge.rs -L target/lib -l static=buttmitrel || exit 1
 
 says() { # EXPECTED ARGUMENT...: both programs write these lines
     local expected=$1 program

@@ -1,8 +1,8 @@
 #!/usr/bin/env bash
-# The captures of examples/: each text assembles to its trace and comes back, the program and ./explain answer what is written
-# down. Then the assembler's messages, ./explain by itself, and 2,000 random byte strings to text and back from a printed seed.
+# The captures of examples/: each text assembles to its trace and comes back, the program and `explain` answer what is written
+# down. Then the assembler's messages, the explaining by itself, and 2,000 random byte strings to text and back from a printed seed.
 set -u
-export PROGRAM=${PROGRAM:-target/bin/judge_trace}
+PROGRAM=${PROGRAM:-target/bin/judge_trace}
 out=target/examples
 failed=0 checks=0
 
@@ -45,11 +45,11 @@ run_program() { # TRACE
 # The trace of 14 is not kept, being so long.
 capture() { # TEXT
     local base=${1%.txt} trace=$out/trace
-    tools/assemble "$1" >"$trace" || return 1
+    ./buttmitrel assemble "$1" >"$trace" || return 1
     [ "$base" = examples/refused/14_too_long ] || cmp "$trace" "$base.trace" || return 1
-    tools/disassemble "$trace" >"$out/text" || return 1
-    same "$trace" tools/assemble "$out/text" || return 1
-    same "$base.answer" run_program "$trace" && same "$base.explain" ./explain "$trace"
+    ./buttmitrel disassemble "$trace" >"$out/text" || return 1
+    same "$trace" ./buttmitrel assemble "$out/text" || return 1
+    same "$base.answer" run_program "$trace" && same "$base.explain" target/tools/explain "$trace" "$base.answer"
 }
 
 for text in examples/*.txt examples/refused/*.txt; do
@@ -62,7 +62,7 @@ check "refusals: 1 to 11 and 14" [ "$numbers" = "1 2 3 4 5 6 7 8 9 10 11 14 " ]
 
 refuses() { # TEXT MESSAGE
     printf '%b' "$1" >"$out/text"
-    check "$1" says 2 "$2" tools/assemble "$out/text"
+    check "$1" says 2 "$2" ./buttmitrel assemble "$out/text"
 }
 refuses 'cells 3\n\ncels 4' "line 3: 'cels' begins no line"
 refuses '# no head\nhole 3' "line 2: the text ends with no line 'cells'"
@@ -83,21 +83,18 @@ refuses 'cells 3\nsample 5..4 current 0 board 0 volts 1 temps 1' "line 2: the ti
 refuses 'cells 3\nsample 0..65535 current 0 board 0 volts 1 temps 1' "line 2: a trace has at most 65535 samples"
 refuses 'cells 3\nbytes 00\nhole 3' "line 3: 'hole' after 'bytes'"
 
-# What ./explain says follows what the program wrote, whatever that is.
+# What is explained follows what the program wrote, whatever that is.
 explain_as() { # SED: of the first example, its answer changed
-    printf '#!/bin/sh\nsed "%s" examples/hidden_over_voltage.answer\n' "$1" >"$out/other"
-    chmod +x "$out/other"
-    PROGRAM=$out/other ./explain examples/hidden_over_voltage.trace
+    sed "$1" examples/hidden_over_voltage.answer >"$out/answer"
+    target/tools/explain examples/hidden_over_voltage.trace "$out/answer"
 }
 check "other flags" says 0 "COV (Cell Overvoltage): alert held, status clear" explain_as 's/^0202/0100/'
-check "a rule that is off" says 0 "POV (Pack Overvoltage): alert held, status unknown" explain_as 's/^\\(0202.\\{36\\}\\)0000/\\10102/'
+check "a rule that is off" says 0 "POV (Pack Overvoltage): alert held, status unknown" explain_as 's/^\(0202.\{36\}\)0000/\10102/'
 check "other first tick" says 0 "first possible at tick 13 (0:00:13), first certain at tick 4112 (1:08:32)" \
     explain_as 's/^02020c000000ffffffff/02020d00000010100000/'
 check "other verdict" says 0 "Voltage 12509 mV: differs from the sum of the sample's cells, 4159 + 4161 + 4189 mV" explain_as 's/^44/54/'
 check "too few verdicts" says 1 "no answer to this trace" explain_as 's/^44/4/'
 check "no answer" says 1 "no answer to this trace" explain_as d
-check "usage" says 2 "usage: ./explain [FILE]" ./explain one two
-check "a missing file" says 2 "No such file" ./explain "$out/missing"
 
 seed=${SEED:-$RANDOM}
 echo "examples: seed $seed"

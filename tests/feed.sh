@@ -17,7 +17,7 @@ done
 mkdir -p "$out" || exit 1
 
 # The generator of tests/second_program.sh.
-. tools/static_library.sh
+. tools/library.sh
 second_program || exit 1
 
 # What the feed writes where the judge writes this.
@@ -90,7 +90,7 @@ for ((index = 0; index < 400; index++)); do
 done
 
 for bytes in 500 1000 2000 4000 8000 16000 32000 65000; do
-    long_feed "$bytes" | tools/assemble >"$out/long.trace" || exit 1
+    long_feed "$bytes" | ./buttmitrel assemble >"$out/long.trace" || exit 1
     compare "the long feed of seed $seed up to $bytes bytes" "$out/long.trace"
     [ "$(head -n 1 "$out/fed")" = accepted ] && [ "$(wc -c <"$out/long.trace")" -ge "$bytes" ] && continue
     echo "feed: the long feed of seed $seed up to $bytes bytes was not accepted whole"

@@ -10,7 +10,7 @@ if ! [ -x "$program" ]; then
     echo "second_program: there is no $program"
     exit 1
 fi
-. tools/static_library.sh
+. tools/library.sh
 second_program
 
 echo "second_program: seed $seed"

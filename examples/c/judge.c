@@ -1,7 +1,7 @@
 /* Judges a trace with the proved library; without a trace it feeds a few samples and a hole live.
  *
- *     rt staticlib buttmitrel; rt staticlib buttmitrel_live
- *     cc -I include -o judge_c examples/c/judge.c target/staticlib/libbuttmitrel.a target/staticlib/libbuttmitrel_live.a
+ *     ./buttmitrel install
+ *     cc -o judge_c examples/c/judge.c $(pkg-config --cflags --libs buttmitrel)
  *     ./judge_c examples/hidden_over_voltage.trace
  */
 #include <inttypes.h>

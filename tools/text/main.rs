@@ -38,7 +38,7 @@ fn main() {
     let arguments: Vec<String> = std::env::args().skip(1).collect();
     let job = arguments.first().map_or("", |a| a);
     if !matches!(job, "assemble" | "disassemble") || arguments.len() > 2 {
-        stop(format!("usage: tools/{} [FILE]", if job.is_empty() { "assemble" } else { job }));
+        stop("usage: text assemble|disassemble [FILE]".to_string());
     }
     let file = arguments.get(1);
     let input = read(job, file);

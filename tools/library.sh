@@ -1,0 +1,44 @@
+# The library for other programs, and the second program, which links it. Sourced.
+home=$(cd "${BASH_SOURCE[0]%/*}/.." && pwd)
+. "$home/tools/prove.sh"
+
+# Builds target/lib/libbuttmitrel.a and libbuttmitrel.so where they are missing or older than a source.
+library() {
+    if is_old "$home/target/lib/libbuttmitrel.so"; then alone build_library; fi
+}
+
+# The judge and the live feed are compiled apart, which keeps the judge fast, and their objects put together.
+build_library() {
+    local crate named lib=$home/target/lib log
+    is_old "$lib/libbuttmitrel.so" || return 0
+    read -r crate named < <(crates_below buttmitrel_live | tail -n 1)
+    mkdir -p "$lib" && touch "$lib/begun" && prove 'the library' $named || return 2
+    report 'compiling the library'
+    for crate in buttmitrel buttmitrel_live; do
+        log=target/prove/$crate/log
+        if ! { (run_rt "$crate" staticlib "$crate") && cd "$lib" && ar x "../staticlib/lib$crate.a" "$crate.o"; }; then
+            report "the library is not built; $log says why"
+            return 2
+        fi
+    done
+    link_library && touch -c -r "$lib/begun" "$lib/libbuttmitrel.so"
+}
+
+# From the objects in the folder; the C library's symbols are all that they take from elsewhere.
+link_library() {
+    rm -f libbuttmitrel.a
+    ar rcs libbuttmitrel.a buttmitrel.o buttmitrel_live.o &&
+        cc -shared -Wl,-soname,libbuttmitrel.so -Wl,-z,defs -o libbuttmitrel.so buttmitrel.o buttmitrel_live.o &&
+        rm -f buttmitrel.o buttmitrel_live.o
+}
+
+# Builds target/tools/second where it is missing or older than a source.
+second_program() {
+    library && mkdir -p "$home/target/tools" && (flock 8 && build_second) 8>"$home/target/tools/second.lock"
+}
+
+build_second() {
+    local out=$home/target/tools/second lib=$home/target/lib
+    if [ -x "$out" ] && [ -z "$(find "$home/tools/second" "$lib/libbuttmitrel.a" -newer "$out" -print -quit)" ]; then return; fi
+    rustc --edition 2021 -O -o "$out" "$home/tools/second/main.rs" -L "native=$lib" -l static=buttmitrel
+}

@@ -1,0 +1,155 @@
+# Proves crates and builds their programs. Sourced, with `home` the repository's folder.
+
+# Says what is being done, behind a line that is rewritten on a terminal.
+report() { # MESSAGE
+    if [ -t 2 ]; then printf '\r\e[K' >&2; fi
+    printf 'buttmitrel: %s\n' "$1" >&2
+}
+
+# The crates that these crates need and they themselves: a line for each, behind those of the crates that it names, which follow its name.
+crates_below() { # CRATE...
+    awk -v wanted="$*" '
+        function visit(crate,  named, count, i, line) {
+            if (seen[crate]++) return
+            count = split(names[crate], named, " ")
+            line = crate
+            for (i = 1; i <= count; i++) {
+                if (!(named[i] in names)) continue
+                visit(named[i])
+                line = line " " named[i]
+            }
+            print line
+        }
+        { sub(/#.*/, "") }
+        split($0, part, ":") == 2 { gsub(/[ \t]/, "", part[1]); names[part[1]] = part[2] }
+        END {
+            count = split(wanted, crate, " ")
+            for (i = 1; i <= count; i++) visit(crate[i])
+        }' "$home/crates.txt"
+}
+
+# Runs rt in a folder of its own, as two runs in one folder would write the same logs; what they prove and build is shared.
+run_rt() { # CRATE WORD...
+    local folder=$home/target/prove/$1 part
+    rm -rf "$folder"
+    mkdir -p "$folder/target/log" || return 2
+    ln -s ../../../crates ../../../crates.txt "$folder" || return 2
+    for part in rlib stamp obj bin staticlib; do
+        mkdir -p "$home/target/$part" && ln -s "../../../$part" "$folder/target" || return 2
+    done
+    cd "$folder" && exec rt "${@:2}" >log 2>&1 </dev/null
+}
+
+# Starts each crate whose own crates are proved, as long as a processor is free.
+start_crates() {
+    local crate named
+    for crate in "${order[@]}"; do
+        [ "${#running[@]}" -lt "$jobs" ] || return
+        [ -z "${state[$crate]-}" ] || continue
+        for named in ${names[$crate]}; do
+            [ "${state[$named]-}" = proved ] || continue 2
+        done
+        state[$crate]=started
+        run_rt "$crate" check "$crate" &
+        running[$!]=$crate
+    done
+}
+
+time_so_far() {
+    printf '%d:%02d' $((SECONDS / 60)) $((SECONDS % 60))
+}
+
+# Waits until a crate ends; on a terminal, until a second has passed. Elsewhere a crate that had to be proved gets a line.
+wait_for_crate() {
+    local ended='' crate status
+    if [ -t 2 ]; then
+        printf '\r\e[Kbuttmitrel: %d of %d crates proved, %s so far; now %s' "$proved" "${#order[@]}" "$(time_so_far)" "${running[*]}" >&2
+        if [ -z "$clock" ]; then
+            sleep 1 &
+            clock=$!
+        fi
+    fi
+    wait -n -p ended
+    status=$?
+    crate=${running[${ended:-0}]-}
+    if [ -z "$crate" ]; then
+        clock=''
+        return
+    fi
+    unset "running[$ended]"
+    if [ "$status" -ne 0 ]; then
+        report "the crate $crate is not proved; target/prove/$crate/log says why"
+        return 2
+    fi
+    state[$crate]=proved proved=$((proved + 1))
+    if [ ! -t 2 ] && ! grep -q "^rt: $crate proved (unchanged" "$home/target/prove/$crate/log"; then
+        report "$proved of ${#order[@]} crates proved, $(time_so_far) so far: $crate"
+    fi
+}
+
+# Proves crates and those below them, each as soon as the crates that it names are proved, so many at a time as there are processors.
+prove() ( # WHAT CRATE...
+    set -m
+    declare -A names=() state=() running=()
+    order=() proved=0 clock='' SECONDS=0
+    jobs=${RT_JOBS:-$(nproc)}
+    case $jobs in '' | *[!0-9]* | 0) jobs=1 ;; esac
+    while read -r crate named; do
+        order+=("$crate") names[$crate]=$named
+    done < <(crates_below "${@:2}")
+    report "proving and building $1: ${#order[@]} crates, which takes minutes the first time; the prover's words go to target/prove"
+    trap 'for job in "${!running[@]}" $clock; do kill -- "-$job" 2>/dev/null; done' EXIT
+    trap 'exit 2' INT TERM HUP
+    while [ "$proved" -lt "${#order[@]}" ]; do
+        start_crates
+        if [ "${#running[@]}" -eq 0 ]; then
+            report "the crates of crates.txt name each other in a circle: look at $*"
+            exit 2
+        fi
+        wait_for_crate || exit 2
+    done
+    [ ! -t 2 ] || report "${#order[@]} crates proved in $(time_so_far)"
+)
+
+# Runs a function while no other call builds; what it was to build may be there by then.
+alone() { # FUNCTION WORD...
+    if ! command -v rt >/dev/null; then
+        report "the Rattle toolchain is needed: put its command rt in the PATH"
+        return 2
+    fi
+    mkdir -p "$home/target/prove" && (flock 9 && "$@") 9>"$home/target/prove/lock"
+}
+
+# Whether a file is missing or older than a source of the crates.
+is_old() { # FILE
+    [ ! -f "$1" ] || [ -n "$(find "$home/crates" "$home/crates.txt" -name must-fail -prune -o -newer "$1" -print -quit)" ]
+}
+
+# Fills `old` with the programs that are missing or older than a source.
+find_old() { # CRATE...
+    local crate
+    old=()
+    for crate; do
+        if is_old "$home/target/bin/$crate"; then old+=("$crate"); fi
+    done
+}
+
+# Builds the programs that are missing or older than a source.
+build_programs() { # CRATE...
+    local old
+    find_old "$@"
+    [ "${#old[@]}" -gt 0 ] || return 0
+    alone build_old "$@"
+}
+
+# A program then counts as being as old as the look at its sources.
+build_old() { # CRATE...
+    local crate old
+    find_old "$@"
+    touch "$home/target/prove/begun" || return 2
+    for crate in "${old[@]}"; do
+        [ -x "$home/target/bin/$crate" ] || rm -f "$home/target/stamp/$crate"
+    done
+    [ "${#old[@]}" -eq 0 ] || prove "${old[*]}" "${old[@]}" || return 2
+    for crate in "${old[@]}"; do touch -c -r "$home/target/prove/begun" "$home/target/bin/$crate"; done
+}
