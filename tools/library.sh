@@ -32,13 +32,7 @@ link_library() {
         rm -f buttmitrel.o buttmitrel_live.o
 }
 
-# Builds target/tools/second where it is missing or older than a source.
+# Builds target/tools/second.
 second_program() {
-    library && mkdir -p "$home/target/tools" && (flock 8 && build_second) 8>"$home/target/tools/second.lock"
-}
-
-build_second() {
-    local out=$home/target/tools/second lib=$home/target/lib
-    if [ -x "$out" ] && [ -z "$(find "$home/tools/second" "$lib/libbuttmitrel.a" -newer "$out" -print -quit)" ]; then return; fi
-    rustc --edition 2021 -O -o "$out" "$home/tools/second/main.rs" -L "native=$lib" -l static=buttmitrel
+    library && "$home/tools/compile" second -L "native=$home/target/lib" -l static=buttmitrel
 }
