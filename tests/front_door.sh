@@ -76,7 +76,7 @@ gives 1 09_coverage.answer "$door" feed < <(cat 09_coverage.trace)
 gives 0 "$root/examples/clean_charge.explain" "$door" explain < <(cat clean_charge.trace)
 gives 0 clean_charge.trace "$door" assemble - <"$root/examples/clean_charge.txt"
 gives 0 clean_charge.answer "$door" judge <(cat clean_charge.trace)
-for name in 'two words.trace' -dash.trace '*' $'two\nrefused 1 at 0'; do
+for name in 'two words.trace' -dash.trace --json '*' $'two\nrefused 1 at 0'; do
     cp clean_charge.trace "./$name"
     cp "$root/examples/clean_charge.txt" "./$name.txt"
     gives 0 clean_charge.answer "$door" judge -- "$name"
@@ -103,6 +103,29 @@ behind_names 09_coverage.trace 09_coverage.answer clean_charge.trace clean_charg
 run "$door" judge missing 09_coverage.trace folder clean_charge.trace
 [ "$status" -eq 2 ] && cmp -s several written && [ "$(wc -l <said)" -eq 2 ] || bad "a missing file and a folder among others: status $status"
 
+# A thousand captures in one call take at most twice the time of the program alone on them.
+microseconds() { # COMMAND...: the least of three runs
+    local begun took least=''
+    for _ in 1 2 3; do
+        begun=${EPOCHREALTIME/[.,]/}
+        "$@" >written
+        took=$((${EPOCHREALTIME/[.,]/} - begun))
+        if [ -z "$least" ] || [ "$took" -lt "$least" ]; then least=$took; fi
+    done
+    echo "$least"
+}
+alone() {
+    local trace
+    for trace in "${thousand[@]}"; do "$root/target/bin/judge_trace" <"$trace"; done
+}
+thousand=()
+while [ "${#thousand[@]}" -lt 1000 ]; do
+    thousand+=(clean_charge.trace e_bike_trip.trace hidden_over_voltage.trace latched_fuse.trace overnight_bench.trace)
+done
+program=$(microseconds alone) command=$(microseconds "$door" judge "${thousand[@]}")
+echo "front_door: a thousand captures: the program alone $((program / 1000)) ms, one call $((command / 1000)) ms"
+[ "$command" -le $((2 * program)) ] || bad "a thousand captures take more than twice the program's time"
+
 # What can't be carried out.
 for verb in judge explain records feed assemble disassemble; do
     complains "there is no 'missing'" "$door" $verb missing
@@ -110,7 +133,7 @@ for verb in judge explain records feed assemble disassemble; do
     complains "'folder' is a folder" "$door" $verb folder
     complains "standard input is a folder" "$door" $verb <folder
     complains "there is no standard input" "$door" $verb <&-
-    complains "there is no option --jsn" "$door" $verb --jsn clean_charge.trace
+    complains "there is no option '--jsn'" "$door" $verb --jsn clean_charge.trace
 done
 if [ "$(id -u)" -ne 0 ]; then
     touch closed && chmod 000 closed
@@ -122,7 +145,8 @@ complains "name a verb" "$door"
 complains "name a verb" "$door" ''
 complains "there is no verb 'jugde'" "$door" jugde clean_charge.trace
 complains "there is no verb 'jugde'" "$door" help jugde
-complains "it takes one file" "$door" assemble text text
+complains "it takes one file" "$door" assemble text missing
+complains "there is no \$'two\\nlines'" "$door" judge $'two\nlines'
 complains "it takes no words" "$door" version now
 complains "it takes no words" "$door" bench now
 complains "usage:" "$door" install --prefix
