@@ -53,7 +53,7 @@ grep -q ' before ' "$NOTES" && bad "a crate was proved too early: $(grep ' befor
 grep -qx states "$NOTES" && bad "states was proved, which the judge does not need"
 [ "$lines" -le 30 ] && [ "$lines" -gt "$needed" ] || bad "it says $lines lines"
 head -n 1 "$out/said" | grep -qF "proving and building judge_trace: $needed crates" || bad "the first line does not say what it does"
-tail -n 1 "$out/said" | grep -q "^buttmitrel: $needed of $needed crates proved, 0:.*: judge_trace$" || bad "the last line is not the last crate's"
+tail -n 1 "$out/said" | grep -q "$needed of $needed crates proved, 0:.*: judge_trace$" || bad "the last line is not the last crate's"
 
 judge
 [ "$status" -eq 0 ] && [ "$asked" -eq 0 ] && [ "$lines" -eq 0 ] || bad "the second call: $asked crates proved, $lines lines, status $status"
@@ -66,7 +66,7 @@ touch "$copy/crates/walk/src/lib.rt"
 REFUSED=rules
 judge
 [ "$status" -eq 2 ] && [ ! -s "$out/written" ] || bad "a crate that is not proved: status $status"
-tail -n 1 "$out/said" | grep -qF 'the crate rules is not proved; target/prove/rules/log says why' || bad "the last line does not name the log"
+tail -n 1 "$out/said" | grep -qF 'rules is not proved; target/prove/rules/log says why' || bad "the last line does not name the log"
 grep -q 'words of the prover' "$copy/target/prove/rules/log" || bad "the log has not the words of the prover"
 REFUSED=''
 
@@ -80,7 +80,7 @@ cmp -s "$out/written" "${trace%.trace}.answer" && cmp -s "$out/other" "$out/writ
 
 # On a terminal one line is rewritten.
 touch "$copy/crates/walk/src/lib.rt"
-script -qec "'$copy/judge' '$trace'" /dev/null </dev/null >"$out/said"
+script -qec "$(printf '%q %q' "$copy/judge" "$trace")" /dev/null </dev/null >"$out/said"
 grep -q $'\r.*3 of .* crates proved' "$out/said" && [ "$(wc -l <"$out/said")" -le 6 ] || bad "a terminal is shown something else"
 
 mkdir "$out/few"
@@ -88,7 +88,8 @@ for command in bash find sh; do ln -s "$(command -v "$command")" "$out/few"; don
 rm "$copy/target/bin/judge_trace"
 PATH=$out/few "$copy/judge" "$trace" >"$out/written" 2>"$out/said"
 status=$?
-[ "$status" -eq 2 ] && [ "$(wc -l <"$out/said")" -eq 1 ] && grep -q 'the Rattle toolchain is needed' "$out/said" || bad "no toolchain: status $status"
+[ "$status" -eq 2 ] && [ "$(wc -l <"$out/said")" -eq 1 ] && grep -q 'Rattle toolchain is needed' "$out/said" ||
+    bad "no toolchain: status $status"
 
 [ "$failed" -eq 0 ] && echo "first_run: $needed crates, each once and in order; few lines; a failed proof and no toolchain say what to do"
 exit "$failed"

@@ -101,7 +101,7 @@ behind_names 09_coverage.trace "$root/examples/refused/09_coverage.explain" clea
 gives 1 several "$door" explain 09_coverage.trace clean_charge.trace
 behind_names 09_coverage.trace 09_coverage.answer clean_charge.trace clean_charge.answer
 run "$door" judge missing 09_coverage.trace folder clean_charge.trace
-[ "$status" -eq 2 ] && cmp -s several written && [ "$(wc -l <said)" -eq 2 ] || bad "a missing file and a folder among others: status $status"
+[ "$status" -eq 2 ] && cmp -s several written && [ "$(wc -l <said)" -eq 2 ] || bad "a missing file and a folder too: status $status"
 
 # A thousand captures in one call take at most twice the time of the program alone on them.
 microseconds() { # COMMAND...: the least of three runs
@@ -164,8 +164,11 @@ done
 cd elsewhere || exit 1
 ln -s ../../../buttmitrel link
 ln -s ../../../judge short
-for command in './link judge' ./short ../../../judge "$root/judge" '../../../buttmitrel judge'; do
-    gives 0 ../clean_charge.answer $command ../clean_charge.trace
+for command in ./short ../../../judge "$root/judge"; do
+    gives 0 ../clean_charge.answer "$command" ../clean_charge.trace
+done
+for command in ./link ../../../buttmitrel; do
+    gives 0 ../clean_charge.answer "$command" judge ../clean_charge.trace
 done
 gives 1 ../09_coverage.answer ./short <../09_coverage.trace
 

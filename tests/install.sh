@@ -25,7 +25,8 @@ bad() { # MESSAGE
     cat "$out/said"
     exit 1
 }
-if grep -raqF "$root" "$temporary/first"; then bad "a file of the installed tree names the repository's folder: $(grep -ralF "$root" "$temporary/first")"; fi
+names=$(grep -ralF "$root" "$temporary/first")
+[ -z "$names" ] || bad "these installed files name the repository's folder: $names"
 mv "$temporary/first" "$temporary/moved"
 prefix=$temporary/moved
 
@@ -81,7 +82,8 @@ for verb in bench install; do
 done
 for verb in judge explain records feed assemble disassemble version help; do
     example=$(installed help "$verb" | sed -n 's/^example: //p')
-    (cd "$out/elsewhere" && env -i PATH=/usr/bin bash -c "$example") >"$out/written" && [ -s "$out/written" ] || bad "the example of $verb: $example"
+    (cd "$out/elsewhere" && env -i PATH=/usr/bin bash -c "$example") >"$out/written" && [ -s "$out/written" ] && continue
+    bad "the example of $verb: $example"
 done
 [ "$(head -n 1 "$prefix/man/man1/buttmitrel.1")" = '.TH BUTTMITREL 1' ] || bad "there is no manual page"
 
