@@ -13,11 +13,11 @@ build_library() {
     is_old "$lib/libbuttmitrel.so" || return 0
     read -r crate named < <(crates_below buttmitrel_live | tail -n 1)
     mkdir -p "$lib" && touch "$lib/begun" && prove 'the library' $named || return 2
-    report 'compiling the library'
+    announce 'compiling the library'
     for crate in buttmitrel buttmitrel_live; do
         log=target/prove/$crate/log
         if ! { (run_rt "$crate" staticlib "$crate") && cd "$lib" && ar x "../staticlib/lib$crate.a" "$crate.o"; }; then
-            report "the library is not built; $log says why"
+            announce "the library is not built; $log says why"
             return 2
         fi
     done

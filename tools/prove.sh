@@ -1,7 +1,7 @@
 # Proves crates and builds their programs. Sourced, with `home` the repository's folder.
 
 # Says what is being done, behind a line that is rewritten on a terminal.
-report() { # MESSAGE
+announce() { # MESSAGE
     if [ -t 2 ]; then printf '\r\e[K' >&2; fi
     printf 'buttmitrel: %s\n' "$1" >&2
 }
@@ -78,12 +78,12 @@ wait_for_crate() {
     fi
     unset "running[$ended]"
     if [ "$status" -ne 0 ]; then
-        report "the crate $crate is not proved; target/prove/$crate/log says why"
+        announce "the crate $crate is not proved; target/prove/$crate/log says why"
         return 2
     fi
     state[$crate]=proved proved=$((proved + 1))
     if [ ! -t 2 ] && ! grep -q "^rt: $crate proved (unchanged" "$home/target/prove/$crate/log"; then
-        report "$proved of ${#order[@]} crates proved, $(time_so_far) so far: $crate"
+        announce "$proved of ${#order[@]} crates proved, $(time_so_far) so far: $crate"
     fi
 }
 
@@ -97,24 +97,24 @@ prove() ( # WHAT CRATE...
     while read -r crate named; do
         order+=("$crate") names[$crate]=$named
     done < <(crates_below "${@:2}")
-    report "proving and building $1: ${#order[@]} crates, which takes minutes the first time; the prover's words go to target/prove"
+    announce "proving and building $1: ${#order[@]} crates, which takes minutes the first time; the prover's words go to target/prove"
     trap 'for job in "${!running[@]}" $clock; do kill -- "-$job" 2>/dev/null; done' EXIT
     trap 'exit 2' INT TERM HUP
     while [ "$proved" -lt "${#order[@]}" ]; do
         start_crates
         if [ "${#running[@]}" -eq 0 ]; then
-            report "the crates of crates.txt name each other in a circle: look at $*"
+            announce "the crates of crates.txt name each other in a circle: look at $*"
             exit 2
         fi
         wait_for_crate || exit 2
     done
-    [ ! -t 2 ] || report "${#order[@]} crates proved in $(time_so_far)"
+    [ ! -t 2 ] || announce "${#order[@]} crates proved in $(time_so_far)"
 )
 
 # Runs a function while no other call builds; what it was to build may be there by then.
 alone() { # FUNCTION WORD...
     if ! command -v rt >/dev/null; then
-        report "the Rattle toolchain is needed: put its command rt in the PATH"
+        announce "the Rattle toolchain is needed: put its command rt in the PATH"
         return 2
     fi
     mkdir -p "$home/target/prove" && (flock 9 && "$@") 9>"$home/target/prove/lock"
