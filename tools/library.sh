@@ -16,7 +16,7 @@ build_library() {
     announce 'compiling the library'
     for crate in buttmitrel buttmitrel_live; do
         log=target/prove/$crate/log
-        if ! { (run_rt "$crate" staticlib "$crate") && cd "$lib" && ar x "../staticlib/lib$crate.a" "$crate.o"; }; then
+        if ! { make_folder "$crate" && (run_rt "$crate" staticlib "$crate") && cd "$lib" && ar x "../staticlib/lib$crate.a" "$crate.o"; }; then
             announce "the library is not built; $log says why"
             return 2
         fi

@@ -28,16 +28,18 @@ crates_below() { # CRATE...
         }' "$home/crates.txt"
 }
 
-# Runs rt in a folder of its own, as two runs in one folder would write the same logs; what they prove and build is shared.
+# Makes a folder in which rt can run beside another rt, as two runs in one folder would write the same logs; what they prove and build is
+# shared.
+make_folder() { # CRATE
+    local folder=$home/target/prove/$1
+    rm -rf "$folder" &&
+        mkdir -p "$folder/target/log" "$home"/target/{rlib,stamp,obj,bin,staticlib} &&
+        ln -s ../../../crates ../../../crates.txt "$folder" &&
+        ln -s ../../../{rlib,stamp,obj,bin,staticlib} "$folder/target"
+}
+
 run_rt() { # CRATE WORD...
-    local folder=$home/target/prove/$1 part
-    rm -rf "$folder"
-    mkdir -p "$folder/target/log" || return 2
-    ln -s ../../../crates ../../../crates.txt "$folder" || return 2
-    for part in rlib stamp obj bin staticlib; do
-        mkdir -p "$home/target/$part" && ln -s "../../../$part" "$folder/target" || return 2
-    done
-    cd "$folder" && exec rt "${@:2}" >log 2>&1 </dev/null
+    cd "$home/target/prove/$1" && exec rt "${@:2}" >log 2>&1 </dev/null
 }
 
 # Starts each crate whose own crates are proved, as long as a processor is free.
@@ -55,15 +57,17 @@ start_crates() {
     done
 }
 
-time_so_far() {
-    printf '%d:%02d' $((SECONDS / 60)) $((SECONDS % 60))
+# Sets `progress` to how far the proof is.
+look_at_progress() {
+    printf -v progress '%d of %d crates proved, %d:%02d so far' "$proved" "${#order[@]}" $((SECONDS / 60)) $((SECONDS % 60))
 }
 
 # Waits until a crate ends; on a terminal, until a second has passed. Elsewhere a crate that had to be proved gets a line.
 wait_for_crate() {
-    local ended='' crate status
+    local ended='' crate status progress log
     if [ -t 2 ]; then
-        printf '\r\e[Kbuttmitrel: %d of %d crates proved, %s so far; now %s' "$proved" "${#order[@]}" "$(time_so_far)" "${running[*]}" >&2
+        look_at_progress
+        printf '\r\e[Kbuttmitrel: %s; now %s' "$progress" "${running[*]}" >&2
         if [ -z "$clock" ]; then
             sleep 1 &
             clock=$!
@@ -82,33 +86,37 @@ wait_for_crate() {
         return 2
     fi
     state[$crate]=proved proved=$((proved + 1))
-    if [ ! -t 2 ] && ! grep -q "^rt: $crate proved (unchanged" "$home/target/prove/$crate/log"; then
-        announce "$proved of ${#order[@]} crates proved, $(time_so_far) so far: $crate"
-    fi
+    look_at_progress
+    mapfile -t log <"$home/target/prove/$crate/log"
+    if [ -t 2 ] || [[ ${log[*]} == *"rt: $crate proved (unchanged"* ]]; then return; fi
+    announce "$progress: $crate"
 }
 
 # Proves crates and those below them, each as soon as the crates that it names are proved, so many at a time as there are processors.
 prove() ( # WHAT CRATE...
-    set -m
     declare -A names=() state=() running=()
     order=() proved=0 clock='' SECONDS=0
     jobs=${RT_JOBS:-$(nproc)}
     case $jobs in '' | *[!0-9]* | 0) jobs=1 ;; esac
     while read -r crate named; do
         order+=("$crate") names[$crate]=$named
+        make_folder "$crate" || exit 2
     done < <(crates_below "${@:2}")
     announce "proving and building $1: ${#order[@]} crates, which takes minutes the first time; the prover's words go to target/prove"
-    trap 'for job in "${!running[@]}" $clock; do kill -- "-$job" 2>/dev/null; done' EXIT
+    # each run of rt gets a process group of its own, so that all of it can be stopped
+    set -m
+    trap 'exec 2>/dev/null; for job in "${!running[@]}" $clock; do kill -- "-$job"; done' EXIT
     trap 'exit 2' INT TERM HUP
     while [ "$proved" -lt "${#order[@]}" ]; do
         start_crates
         if [ "${#running[@]}" -eq 0 ]; then
-            announce "the crates of crates.txt name each other in a circle: look at $*"
+            announce "the crates of crates.txt name each other in a circle: look at ${*:2}"
             exit 2
         fi
         wait_for_crate || exit 2
     done
-    [ ! -t 2 ] || announce "${#order[@]} crates proved in $(time_so_far)"
+    look_at_progress
+    [ ! -t 2 ] || announce "$progress"
 )
 
 # Runs a function while no other call builds; what it was to build may be there by then.
