@@ -67,7 +67,8 @@ wait_for_crate() {
     local ended='' crate status progress log
     if [ -t 2 ]; then
         look_at_progress
-        printf '\r\e[Kbuttmitrel: %s; now %s' "$progress" "${running[*]}" >&2
+        progress="buttmitrel: $progress; now ${running[*]}"
+        printf '\r\e[K%s' "${progress:0:79}" >&2
         if [ -z "$clock" ]; then
             sleep 1 &
             clock=$!
