@@ -4,7 +4,7 @@ use mathlib.Core.Path.{_≡_, refl, ap, sym, _∙_}
 use mathlib.Core.List.{List, [], _∷_, _++_, append-assoc}
 use native.Mathlib.Omega.{arith}
 use native.Mathlib.Numerals.{add-one}
-use lib.ListN.{length, getD, set, take, length-set}
+use lib.ListN.{length, getD, set, take, length-set, length-append}
 use lib.Seq.{take-suc, take-suc-set, take-set-le, take-all, getD-set-other}
 use Rattle.io.specs.Digits.{glyph}
 use Rattle.lines.specs.Lines.{hexDigits, hexLine}
@@ -54,3 +54,12 @@ hexing-end {report} {text} {i} n h k =
     ∙ take-suc text 374 0 (omega (arith, h .long))
     ∙ ap (λ (z : ℕ). take 374 text ++ (z ∷ [])) (h .last)
     ∙ ap (λ (z : List ℕ). z ++ (10 ∷ [])) (ap (λ (z : ℕ). take z text) (sym e) ∙ h .done ∙ ap hexDigits (take-all i report (omega (arith, n))))
+
+hex-length : (xs : List ℕ) → length (hexDigits xs) ≡ 2 * length xs
+unfolding hexDigits
+hex-length [] = refl
+hex-length (x ∷ xs) = omega (arith, hex-length xs)
+
+-- A line has two digits for each byte, and its end.
+pub hex-line-length : (xs : List ℕ) → length (hexLine xs) ≡ 2 * length xs + 1
+hex-line-length xs = length-append (hexDigits xs) (10 ∷ []) ∙ ap (λ (n : ℕ). n + 1) (hex-length xs)

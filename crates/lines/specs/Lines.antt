@@ -47,3 +47,7 @@ verdictDigits verdicts = map (λ v. glyph (v % 10)) verdicts
 -- How many bytes of a line are put at the start of a buffer: all, or none where it does not fit.
 abbrev pub putLength : List ℕ → List ℕ → ℕ
 putLength buffer line = cond (leb (length line) (length buffer)) (length line) 0
+
+-- The three lines of an accepted trace: 'accepted', the report, the verdicts.
+abbrev pub acceptedLines : List ℕ → List ℕ → List ℕ
+acceptedLines report verdicts = acceptedLine ++ hexLine report ++ verdictDigits verdicts ++ (10 ∷ [])
