@@ -32,7 +32,7 @@ decimal-is (suc k) n (suc (suc r)) b f =
     let low : 10 ^ suc r ≤ n = subst (λ (z : ℕ). 10 ^ z ≤ n) e (f .2 (omega arith)) in
     let big : 10 ≤ n = omega (arith, low, pow-suc 10 r, power-positive r) in
     let fewer : Fewest 10 1 (n / 10) (suc r) =
-        (omega arith, omega (arith, f .1, pow-suc 10 (suc r)), λ h. let d : suc r - 1 ≡ r = omega arith in subst (λ (z : ℕ). 10 ^ z ≤ n / 10) (sym d) (omega (arith, low, pow-suc 10 r))) in
+    (omega arith, omega (arith, f .1, pow-suc 10 (suc r)), λ h. let d : suc r - 1 ≡ r = omega arith in subst (λ (z : ℕ). 10 ^ z ≤ n / 10) (sym d) (omega (arith, low, pow-suc 10 r))) in
     rw (le-ltb n 10 big) (ap (λ (z : List ℕ). z ++ (glyph (n % 10) ∷ [])) (decimal-is k (n / 10) (suc r) (omega (arith, b, pow-suc 10 (suc k))) fewer))
 
 one-more : (k n : ℕ) (b : Bool) (l : List ℕ) → length l ≤ suc k
@@ -70,9 +70,9 @@ pub number-put : (s : List ℕ) (at : ℕ) (word : List ℕ) (n k : ℕ) {text t
     → Fewest 10 1 n k → text ≡ digits 10 k n → t ≡ putAt s at word → u ≡ putAt t (at + length word) text
     → (at + length word + k ≡ at + length (word ++ decimal n)) × (u ≡ putAt s at (word ++ decimal n))
 number-put s at word n k {text} {t} {u} l h b f e first second = (
-    omega (arith, digits-count n k b f, length-append word (decimal n)),
-    second
-    ∙ ap (λ (z : List ℕ). putAt t (at + length word) z) (e ∙ digits-decimal n k b f)
-    ∙ ap (λ (z : List ℕ). putAt z (at + length word) (decimal n)) first
-    ∙ text-then s at word (decimal n) (omega (arith, l, decimal-short 19 n)),
-  )
+  omega (arith, digits-count n k b f, length-append word (decimal n)),
+  second
+      ∙ ap (λ (z : List ℕ). putAt t (at + length word) z) (e ∙ digits-decimal n k b f)
+      ∙ ap (λ (z : List ℕ). putAt z (at + length word) (decimal n)) first
+      ∙ text-then s at word (decimal n) (omega (arith, l, decimal-short 19 n)),
+)

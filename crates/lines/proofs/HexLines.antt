@@ -36,14 +36,14 @@ hexing-next {report} {text} {i} x y n h k e f =
       within = omega arith;
       long = length-set once (2 * i + 1) y ∙ l;
       done =
-        ap (λ (z : ℕ). take z (set once (2 * i + 1) y)) two
-        ∙ take-suc-set once (2 * i + 1) y (omega (arith, l))
-        ∙ ap (λ (z : List ℕ). z ++ (y ∷ [])) (ap (λ (z : ℕ). take z once) one ∙ take-suc-set text (2 * i) x (omega (arith, h .long)) ∙ ap (λ (z : List ℕ). z ++ (x ∷ [])) (h .done))
-        ∙ append-assoc (hexDigits (take i report)) (x ∷ []) (y ∷ [])
-        ∙ ap (λ (z : ℕ). hexDigits (take i report) ++ (z ∷ y ∷ [])) e
-        ∙ ap (λ (z : ℕ). hexDigits (take i report) ++ (glyph (getD report i 0 / 16 % 16) ∷ z ∷ [])) f
-        ∙ sym (hex-last (take i report) (getD report i 0))
-        ∙ ap hexDigits (sym (take-suc report i 0 (omega (arith, n))) ∙ ap (λ (z : ℕ). take z report) (sym (add-one i)));
+          ap (λ (z : ℕ). take z (set once (2 * i + 1) y)) two
+          ∙ take-suc-set once (2 * i + 1) y (omega (arith, l))
+          ∙ ap (λ (z : List ℕ). z ++ (y ∷ [])) (ap (λ (z : ℕ). take z once) one ∙ take-suc-set text (2 * i) x (omega (arith, h .long)) ∙ ap (λ (z : List ℕ). z ++ (x ∷ [])) (h .done))
+          ∙ append-assoc (hexDigits (take i report)) (x ∷ []) (y ∷ [])
+          ∙ ap (λ (z : ℕ). hexDigits (take i report) ++ (z ∷ y ∷ [])) e
+          ∙ ap (λ (z : ℕ). hexDigits (take i report) ++ (glyph (getD report i 0 / 16 % 16) ∷ z ∷ [])) f
+          ∙ sym (hex-last (take i report) (getD report i 0))
+          ∙ ap hexDigits (sym (take-suc report i 0 (omega (arith, n))) ∙ ap (λ (z : ℕ). take z report) (sym (add-one i)));
       last = getD-set-other once (2 * i + 1) 374 y 0 (λ z. omega arith) ∙ getD-set-other text (2 * i) 374 x 0 (λ z. omega arith) ∙ h .last;
     }
 

@@ -21,17 +21,21 @@ NumberPut s t at word n end = (end ≡ at + length (word ++ decimal n)) × (t �
 pub number-short : (s : List ℕ) {t : List ℕ} (at : ℕ) (word : List ℕ) (n : ℕ) {end : ℕ} → NumberPut s t at word n end → 64 ≡ length s
     → (64 ≡ length t) × (end ≤ at + length word + 20)
 number-short s at word n p l = (
-    l ∙ sym (ap length (p .1) ∙ text-long s at (word ++ decimal n)),
-    omega (arith, p .0, length-append word (decimal n), decimal-short 19 n),
-  )
+  l ∙ sym (ap length (p .1) ∙ text-long s at (word ++ decimal n)),
+  omega (arith, p .0, length-append word (decimal n), decimal-short 19 n),
+)
 
 pub refusal-short : (number place : ℕ) → length (refusalLine number place) ≤ 53
 refusal-short number place =
     omega (
-      arith, decimal-short 19 number, decimal-short 19 place,
+      arith,
+      decimal-short 19 number,
+      decimal-short 19 place,
       length-append ((refusedWord ++ decimal number) ++ (atWord ++ decimal place)) (10 ∷ []),
       length-append (refusedWord ++ decimal number) (atWord ++ decimal place),
-      length-append refusedWord (decimal number), length-append atWord (decimal place))
+      length-append refusedWord (decimal number),
+      length-append atWord (decimal place),
+    )
 
 -- The whole line in 64 bytes.
 pub refusal-put : (s : List ℕ) {t u v : List ℕ} (number place n p : ℕ) {a b : ℕ} → 64 ≡ length s → n ≡ number → p ≡ place
@@ -47,17 +51,16 @@ refusal-put s {t} {u} {v} number place n p {a} {b} l e f first second third =
     let at : a ≡ 0 + length xs = first .0 in
     let end : b ≡ 0 + length (xs ++ ys) = omega (arith, at, second .0, two) in
     let both : u ≡ putAt s 0 (xs ++ ys) =
-        second .1
-        ∙ ap (λ (z : ℕ). putAt t z ys) at
-        ∙ ap (λ (z : List ℕ). putAt z (0 + length xs) ys) (first .1)
-        ∙ text-then s 0 xs ys (omega (arith, l, short, whole, two)) in
-    (
+    second .1
+    ∙ ap (λ (z : ℕ). putAt t z ys) at
+    ∙ ap (λ (z : List ℕ). putAt z (0 + length xs) ys) (first .1)
+    ∙ text-then s 0 xs ys (omega (arith, l, short, whole, two)) in (
       omega (arith, end, whole) ∙ ap length same,
       third
-      ∙ ap (λ (z : ℕ). putAt u z (10 ∷ [])) end
-      ∙ ap (λ (z : List ℕ). putAt z (0 + length (xs ++ ys)) (10 ∷ [])) both
-      ∙ text-then s 0 (xs ++ ys) (10 ∷ []) (omega (arith, l, short, whole))
-      ∙ ap (putAt s 0) same,
+          ∙ ap (λ (z : ℕ). putAt u z (10 ∷ [])) end
+          ∙ ap (λ (z : List ℕ). putAt z (0 + length (xs ++ ys)) (10 ∷ [])) both
+          ∙ text-then s 0 (xs ++ ys) (10 ∷ []) (omega (arith, l, short, whole))
+          ∙ ap (putAt s 0) same,
     )
 
 -- The line is read back from the 64 bytes.
@@ -77,8 +80,7 @@ line-not s line h = (rw (lt-leb (length line) (length s) h) refl, (text-not s 0 
 pub line-put : (s line : List ℕ) {t text : List ℕ} {n : ℕ} → n ≡ length line → n ≤ length s → text ≡ line → t ≡ putAt s 0 text
     → (n ≡ putLength s line) × ((t ≡ putAt s 0 line) × Counts n t)
 line-put s line {t} {text} {n} e h same put =
-    let l : length t ≡ length s = ap length put ∙ text-long s 0 text in
-    (
+    let l : length t ≡ length s = ap length put ∙ text-long s 0 text in (
       e ∙ sym (rw (le-leb (length line) (length s) (omega arith)) refl),
       (put ∙ ap (putAt s 0) same, (omega arith, sym (length-take-le n t (omega arith)))),
     )

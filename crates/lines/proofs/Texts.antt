@@ -32,7 +32,7 @@ module _ (s₀ : List ℕ) (at : ℕ) (text : List ℕ) where
   copying-next {s} {i} c h =
       let h′ : at + i < length s₀ = omega (arith, c .room) in
       let e : set s (at + i) (getD text i 0) ≡ paste s₀ at text (i + 1) =
-          ap (λ (x : List ℕ). set x (at + i) (getD text i 0)) (c .same) ∙ paste-suc s₀ at text i 0 h′ h ∙ ap (paste s₀ at text) (sym (add-one i)) in
+      ap (λ (x : List ℕ). set x (at + i) (getD text i 0)) (c .same) ∙ paste-suc s₀ at text i 0 h′ h ∙ ap (paste s₀ at text) (sym (add-one i)) in
       record {
         room = c .room;
         within = omega arith;

@@ -33,7 +33,7 @@ turning-next {v₀} {v} {i} t h =
       within = omega (arith, t .long);
       long = length-set v i a ∙ t .long;
       done = below-more _ i (λ j k. getD-set-other v i j a 48 (λ z. omega arith) ∙ t .done j k)
-        (getD-set-same v i a 48 h ∙ glyph-low (getD v i 0 % 10) (omega arith) ∙ ap (λ (z : ℕ). glyph (z % 10)) (t .rest i (omega arith)));
+          (getD-set-same v i a 48 h ∙ glyph-low (getD v i 0 % 10) (omega arith) ∙ ap (λ (z : ℕ). glyph (z % 10)) (t .rest i (omega arith)));
       rest = λ j k. getD-set-other v i j a 0 (λ z. omega arith) ∙ t .rest j (omega arith);
     }
 
