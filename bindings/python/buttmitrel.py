@@ -62,7 +62,12 @@ _LIVE_MEANINGS = {
     16: "this is no state of a feed",
 }
 
-_REPORT = struct.Struct("<" + 16 * "BBII" + "BBBQQII")
+# The report: for each rule alert, status and two first ticks; the outputs; the totals.
+_FLAGS = struct.Struct("<BB8x")
+_FIRST_TICKS = struct.Struct("<2xII")
+_OUTPUTS = struct.Struct("<BBB")
+_TOTALS = struct.Struct("<QQII")
+_REPORT_SIZE = 16 * _FLAGS.size + _OUTPUTS.size + _TOTALS.size
 _NO_TICK = 0xFFFFFFFF
 
 Bytes = Union[bytes, bytearray, memoryview]
@@ -166,8 +171,8 @@ class Report(LiveReport):
 class NetCharge(NamedTuple):
     """The least and the greatest net charge, in minus out, that the unseen ticks allow."""
 
-    least_mas: int
-    greatest_mas: int
+    least_net_charge_mas: int
+    greatest_net_charge_mas: int
 
 
 Rules = Union[Bytes, Sequence[Rule], Mapping[str, Rule]]
@@ -221,7 +226,8 @@ def _library() -> ctypes.CDLL:
 
 def _call(name: str, *arguments: Any, meanings: Mapping[int, str] = _MEANINGS) -> int:
     """The value of a call, or its refusal raised."""
-    number, value = divmod(getattr(_library(), name)(*arguments), 1 << 32)
+    answer: int = getattr(_library(), name)(*arguments)
+    number, value = divmod(answer, 1 << 32)
     if number != 0:
         raise Refused(number, value, meanings.get(number, "a refusal that buttmitrel.py does not know; docs/FORMAT.md has them all"))
     return value
@@ -301,10 +307,13 @@ def reply_count(trace: Bytes) -> int:
     return _call("buttmitrel_reply_count", data, len(data))
 
 
-def _rows(numbers: Sequence[int]) -> Iterable[Tuple[int, str, str, Flag, Flag, int, int]]:
-    for number, names in enumerate(RULE_NAMES):
-        alert, status, possible, held = numbers[4 * number:4 * number + 4]
-        yield (number, *names, Flag(alert), Flag(status), possible, held)
+def _live_report(report: bytes) -> LiveReport:
+    """What a report says beside first ticks."""
+    rules = []
+    for number, (alert, status) in enumerate(_FLAGS.iter_unpack(report[:160])):
+        rules.append(LiveRule(number, *RULE_NAMES[number], Flag(alert), Flag(status)))
+    outputs = Outputs(*map(Flag, _OUTPUTS.unpack_from(report, 160)))
+    return LiveReport(tuple(rules), outputs, *_TOTALS.unpack_from(report, 163))
 
 
 def _tick(number: int) -> Optional[int]:
@@ -314,12 +323,15 @@ def _tick(number: int) -> Optional[int]:
 def judge(trace: Bytes) -> Report:
     """Judges a trace."""
     data = _bytes("trace", trace)
-    report = (c_uint8 * _REPORT.size)()
+    buffer = (c_uint8 * _REPORT_SIZE)()
     verdicts = (c_uint8 * reply_count(data))()
-    _call("buttmitrel_judge", data, len(data), report, len(report), verdicts, len(verdicts))
-    numbers = _REPORT.unpack(bytes(report))
-    rules = tuple(RuleReport(*row, _tick(possible), _tick(held)) for *row, possible, held in _rows(numbers))
-    return Report(rules, Outputs(*map(Flag, numbers[64:67])), *numbers[67:], tuple(map(Verdict, verdicts)))
+    _call("buttmitrel_judge", data, len(data), buffer, len(buffer), verdicts, len(verdicts))
+    live = _live_report(bytes(buffer))
+    rules = []
+    for rule, (possible, held) in zip(live.rules, _FIRST_TICKS.iter_unpack(bytes(buffer)[:160])):
+        rules.append(RuleReport(**vars(rule), first_possible_tick=_tick(possible), first_held_tick=_tick(held)))
+    fields: Dict[str, Any] = {**vars(live), "rules": tuple(rules), "verdicts": tuple(map(Verdict, verdicts))}
+    return Report(**fields)
 
 
 def net_charge(trace: Bytes) -> NetCharge:
@@ -371,10 +383,10 @@ class LiveFeed:
 
     def sample(self, tick: int, current: int, board: int, volts: Iterable[int], temps: Iterable[int]) -> None:
         """Takes the sample of the expected tick: current in mA, board temperature, the cells' voltages and temperatures."""
-        volts = _array(c_uint16, (_u16("a voltage", volt) for volt in volts))
-        temps = _array(c_int16, (_i16("a temperature", temp) for temp in temps))
+        mv = _array(c_uint16, (_u16("a voltage", volt) for volt in volts))
+        tenths = _array(c_int16, (_i16("a temperature", temp) for temp in temps))
         readings = (_u32("tick", tick), _i16("current", current), _i16("board", board))
-        self._feed("buttmitrel_live_sample", *readings, volts, len(volts), temps, len(temps))
+        self._feed("buttmitrel_live_sample", *readings, mv, len(mv), tenths, len(tenths))
 
     def hole(self, last: int) -> None:
         """Takes a hole from the expected tick up to and with its last tick."""
@@ -382,16 +394,14 @@ class LiveFeed:
 
     def report(self) -> LiveReport:
         """The flags, outputs and totals as the feed stands."""
-        report = (c_uint8 * _REPORT.size)()
-        self._feed("buttmitrel_live_report", report, len(report))
-        numbers = _REPORT.unpack(bytes(report))
-        rules = tuple(LiveRule(*row) for *row, _, _ in _rows(numbers))
-        return LiveReport(rules, Outputs(*map(Flag, numbers[64:67])), *numbers[67:])
+        buffer = (c_uint8 * _REPORT_SIZE)()
+        self._feed("buttmitrel_live_report", buffer, len(buffer))
+        return _live_report(bytes(buffer))
 
     @property
     def expected_tick(self) -> int:
         """The tick that the next sample or hole begins at."""
-        return self._totals[3]
+        return self.totals[3]
 
     @property
     def words(self) -> Tuple[int, ...]:

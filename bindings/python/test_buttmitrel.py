@@ -89,6 +89,12 @@ class Judging(RefusalCase):
         table = re.findall(r'^    rule\("([^"]+)", "([^"]+)"', (ROOT / "tools/trace/names.rs").read_text("utf-8"), re.MULTILINE)
         self.assertEqual(list(buttmitrel.RULE_NAMES), table)
 
+    def test_fields_have_the_names_of_the_json(self):
+        page = set(re.findall(r"^\| `(\w+)` \|", (ROOT / "docs/JSON.md").read_text("utf-8"), re.MULTILINE))
+        names = [field.name for kind in (buttmitrel.Report, buttmitrel.RuleReport) for field in dataclasses.fields(kind)]
+        names += buttmitrel.Outputs._fields + buttmitrel.NetCharge._fields
+        self.assertEqual(set(names) - page, {"verdicts"})
+
     def test_every_refusal_of_the_examples(self):
         seen = []
         for path in sorted((EXAMPLES / "refused").glob("*.trace")):
@@ -101,8 +107,8 @@ class Judging(RefusalCase):
 
     def test_net_charge(self):
         self.assertEqual(buttmitrel.net_charge(trace_of("hidden_over_voltage")), (-80304, 116301))
-        self.assertEqual(buttmitrel.net_charge(trace_of("clean_charge")).least_mas, 3148500)
-        self.assertEqual(buttmitrel.net_charge(trace_of("clean_charge")).greatest_mas, 3148500)
+        self.assertEqual(buttmitrel.net_charge(trace_of("clean_charge")).least_net_charge_mas, 3148500)
+        self.assertEqual(buttmitrel.net_charge(trace_of("clean_charge")).greatest_net_charge_mas, 3148500)
 
     def test_reply_count(self):
         self.assertEqual(buttmitrel.reply_count(trace_of("hidden_over_voltage")), 5)
@@ -163,6 +169,13 @@ class Feeding(RefusalCase):
         self.refuses((8, 7), feed.hole, 6)
         self.refuses((8, 7), feed.hole, 4294967295)
         self.assertEqual(state(feed), before)
+
+    def test_possible_states_of_a_long_time(self):
+        feed = LiveFeed(3, 100, {"CUV": Rule(3000, 3100, 200)})
+        self.assertEqual(feed.possible_states(1), [0])
+        feed.hole(299)
+        self.assertEqual(feed.possible_states(1), list(range(201)))
+        self.assertEqual(feed.possible_states(2), [0])
 
     def test_a_fed_trace_ends_as_it_is_judged(self):
         for path in sorted(EXAMPLES.glob("*.answer")):
@@ -262,6 +275,7 @@ class Loading(unittest.TestCase):
             self.assertIn("refused 1 at 0", self.found(folder, BUTTMITREL_LIBRARY=str(library)))
             missing = self.found(folder, BUTTMITREL_LIBRARY=str(folder / "missing.so"))
             self.assertRegex(missing, "missing.so: cannot open .* name the file libbuttmitrel.so in .* BUTTMITREL_LIBRARY")
+            self.assertIn("refused 1 at 0", self.found(folder, LD_LIBRARY_PATH=str(library.parent)))
             (folder / "other.so").write_bytes(b"no library")
             self.assertIn("BUTTMITREL_LIBRARY", self.found(folder, BUTTMITREL_LIBRARY=str(folder / "other.so")))
             shutil.copy(library, folder / "libbuttmitrel.so")
