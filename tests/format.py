@@ -55,10 +55,10 @@ def blocks(text):
     return found
 
 
-# A number as the document writes it, with n cells.
-def number(text, n):
+# A number as the document writes it, with n cells and other names for numbers.
+def number(text, n, **names):
     text = text.replace(",", "").replace("−", "-").replace("×", "*")
-    return eval(re.sub(r"(\d)n", r"\1 * n", text), {"n": n})
+    return eval(re.sub(r"(\d)n", r"\1 * n", text), {"n": n, **names})
 
 
 def judge(trace):
@@ -103,20 +103,20 @@ def coded_rules():
     table = read("crates/rules/src/lib.rt").split("const ROWS", 1)[1].split("];", 1)[0]
     for note, fields in re.findall(r"// (\d+, [^\n]*)\n\s*Row \{(.*?)\}", table, re.S):
         row = dict(re.findall(r"(\w+): (?:\w+::)?(\w+),", fields))
-        opens = [name for name, field in (("C", "charge"), ("D", "discharge")) if row[field] == "true"]
+        drives = [name for name, field in (("C", "charge"), ("D", "discharge")) if row[field] == "true"]
         recovers = row["recovers"] == "true"
         yield note.split(", ", 1) + [
             QUANTITIES[row["quantity"]],
             row["side"].lower(),
             "yes" if recovers else "latches",
             "even ticks" if row["even"] == "true" else "every tick",
-            ", ".join(opens if recovers else opens + ["fuse"]),
+            ", ".join(drives if recovers else drives + ["fuse"]),
             row["bits"][2:] + "h",
         ]
 
 
 def rules(found):
-    header = ("no.", "name", "quantity Q", "unit", "side", "recovers", "evaluated", "opens", "bits")
+    header = ("no.", "name", "quantity Q", "unit", "side", "recovers", "evaluated", "drives", "bits")
     coded = list(coded_rules())
     check(len(coded), 16, "the rules in the code")
     check([row[:3] + row[4:] for row in found[header]], coded, "the table of the rules")
@@ -191,6 +191,8 @@ def codes(text, trace):
 
 def example(text, trace, report):
     check(len(trace), int(re.search(r"A trace of (\d+) bytes", text).group(1)), "the length of the example")
+    formula = re.search(r"So a trace has (.*) bytes\.", text).group(1)
+    check(len(trace), number(formula, 3, holes=1, replies=3, samples=3), "the length of a trace")
     verdicts = re.search(r"and the verdicts, `(\d+)`", text).group(1)
     check(judge(trace), f"accepted\n{report.hex()}\n{verdicts}\n", "the answer to the example")
 
