@@ -3,7 +3,7 @@ use std::env;
 use std::path::{Path, PathBuf};
 use std::process::{exit, Command};
 
-const NO_LIBRARY: &str = "there is no library. Run `bash -c '. tools/library.sh && library'` in the root of the repository, \
+const NO_LIBRARY: &str = "there is no library of the judge. Install it with './buttmitrel install', \
     or set BUTTMITREL_LIB_DIR to the folder that has libbuttmitrel.a";
 
 // The library's folder and file, and how it is linked.

@@ -1,16 +1,16 @@
 // Judges a trace with the proved library; without a trace it feeds a few samples and a hole live.
 //
-//     bash -c '. tools/library.sh && library'
+//     ./buttmitrel install
 //     cargo run --manifest-path examples/rust/Cargo.toml examples/hidden_over_voltage.trace
-use buttmitrel::{judge, net_charge, rule_section, LiveFeed, Refused, Rule};
+use buttmitrel::{judge, net_charge, rule_bytes, LiveFeed, Refused, Rule};
 use std::process::ExitCode;
 
 fn judge_trace(trace: &[u8]) -> Result<(), Refused> {
     let (report, net) = (judge(trace)?, net_charge(trace)?);
     let (outputs, verdicts) = (report.outputs, report.verdicts);
     println!("accepted");
-    println!("C {} D {} fuse {}", outputs.charge_open as u8, outputs.discharge_open as u8, outputs.fuse as u8);
-    println!("net {} to {}", net.least, net.greatest);
+    println!("C {} D {} fuse {}", outputs.charge_mosfet_open as u8, outputs.discharge_mosfet_open as u8, outputs.fuse_commanded as u8);
+    println!("net {} to {}", net.least_net_charge_mas, net.greatest_net_charge_mas);
     println!("verdicts {}", verdicts.iter().map(|&verdict| (verdict as u8).to_string()).collect::<String>());
     Ok(())
 }
@@ -29,7 +29,7 @@ fn sample(feed: &mut LiveFeed, tick: u32, highest: u16) -> Result<(), Refused> {
 fn feed_live() -> Result<(), Refused> {
     let mut rules = [Rule::OFF; 16];
     rules[0] = Rule { threshold: 4200, recovery: 4100, time: 3 };
-    let mut feed = LiveFeed::begin(3, 100, &rule_section(&rules))?;
+    let mut feed = LiveFeed::begin(3, 100, &rule_bytes(&rules))?;
     for (tick, highest) in [(0, 4150), (1, 4250), (2, 4250)] {
         sample(&mut feed, tick, highest)?;
     }

@@ -10,7 +10,7 @@ pub enum Verdict {
     /// The packet error code is wrong.
     WrongPec = 2,
     /// The command is none of Voltage, Current and BatteryStatus.
-    NotJudged = 3,
+    OtherCommand = 3,
     /// The word agrees with the samples.
     Agrees = 4,
     /// The word differs from the samples.
@@ -24,7 +24,7 @@ impl Verdict {
         match byte {
             1 => Verdict::WrongAddress,
             2 => Verdict::WrongPec,
-            3 => Verdict::NotJudged,
+            3 => Verdict::OtherCommand,
             4 => Verdict::Agrees,
             5 => Verdict::Differs,
             6 => Verdict::CannotTell,
@@ -37,9 +37,9 @@ impl Verdict {
 #[derive(Clone, Copy, Debug, PartialEq, Eq, Hash)]
 pub struct NetCharge {
     /// With every unseen current at its least.
-    pub least: i64,
+    pub least_net_charge_mas: i64,
     /// With every unseen current at its greatest.
-    pub greatest: i64,
+    pub greatest_net_charge_mas: i64,
 }
 
 /// Judges a trace.
@@ -51,7 +51,7 @@ pub struct NetCharge {
 /// assert_eq!(report.rules[0].status, buttmitrel::Flag::Unknown);
 /// assert_eq!(report.rules[0].first_possible_tick, Some(12));
 /// assert_eq!(report.rules[0].first_held_tick, None);
-/// assert_eq!(report.totals.charge_in, 18_000);
+/// assert_eq!(report.totals.charge_in_mas, 18_000);
 /// assert_eq!(report.verdicts[0], buttmitrel::Verdict::Agrees);
 /// # Ok::<(), Box<dyn std::error::Error>>(())
 /// ```
@@ -78,11 +78,11 @@ pub fn reply_count(trace: &[u8]) -> Result<u32, Refused> {
 /// ```
 /// # let path = concat!(env!("CARGO_MANIFEST_DIR"), "/../../examples/hidden_over_voltage.trace");
 /// let net = buttmitrel::net_charge(&std::fs::read(path)?)?;
-/// assert_eq!((net.least, net.greatest), (-80_304, 116_301));
+/// assert_eq!((net.least_net_charge_mas, net.greatest_net_charge_mas), (-80_304, 116_301));
 /// # Ok::<(), Box<dyn std::error::Error>>(())
 /// ```
 pub fn net_charge(trace: &[u8]) -> Result<NetCharge, Refused> {
     let mut bounds = [0; 2];
     calls::net_charge(trace, &mut bounds)?;
-    Ok(NetCharge { least: bounds[0], greatest: bounds[1] })
+    Ok(NetCharge { least_net_charge_mas: bounds[0], greatest_net_charge_mas: bounds[1] })
 }

@@ -36,10 +36,10 @@ mod rules;
 
 pub use judge::{judge, judge_into, net_charge, reply_count, NetCharge, Verdict};
 pub use live::{LiveFeed, TOTALS, WORDS};
-pub use pec::{check, seal, Checked};
+pub use pec::{check, seal, Check};
 pub use refusal::Refused;
-pub use report::{Flag, LiveReport, Outputs, Report, RuleFlags, RuleReport, Totals, REPORT_BYTES};
-pub use rules::{rule_section, Rule, RULE_NAMES, RULE_SECTION_BYTES};
+pub use report::{Flag, LiveReport, LiveRule, Outputs, Report, RuleReport, Totals, REPORT_BYTES};
+pub use rules::{rule_bytes, Rule, RULES_BYTES, RULE_SHORT_NAMES};
 
 // The example of README.md is compiled with those of the documentation.
 #[cfg(doctest)]

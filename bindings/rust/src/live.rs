@@ -1,7 +1,7 @@
 use crate::calls;
 use crate::refusal::Refused;
 use crate::report::{LiveReport, REPORT_BYTES};
-use crate::rules::RULE_SECTION_BYTES;
+use crate::rules::RULES_BYTES;
 
 /// The length of [`LiveFeed::words`].
 pub const WORDS: usize = 80;
@@ -12,12 +12,12 @@ pub const TOTALS: usize = 4;
 /// Judges samples and holes one by one as an analyzer runs.
 ///
 /// ```
-/// use buttmitrel::{rule_section, Flag, LiveFeed, Rule};
+/// use buttmitrel::{rule_bytes, Flag, LiveFeed, Rule};
 ///
 /// // Cell over voltage above 4,200 mV for three seconds, recovered below 4,100 mV; the other rules are off.
 /// let mut rules = [Rule::OFF; 16];
 /// rules[0] = Rule { threshold: 4_200, recovery: 4_100, time: 3 };
-/// let mut feed = LiveFeed::begin(3, 100, &rule_section(&rules))?;
+/// let mut feed = LiveFeed::begin(3, 100, &rule_bytes(&rules))?;
 /// feed.sample(0, 1_500, 300, &[4_250, 4_140, 4_130], &[250, 250, 250])?;
 /// assert_eq!(feed.report().rules[0].alert, Flag::Held);
 /// assert_eq!(feed.report().rules[0].status, Flag::Clear);
@@ -36,14 +36,14 @@ pub const TOTALS: usize = 4;
 pub struct LiveFeed {
     pub(crate) cells: u8,
     pub(crate) idle: u16,
-    pub(crate) rules: [u8; RULE_SECTION_BYTES],
+    pub(crate) rules: [u8; RULES_BYTES],
     pub(crate) words: [u64; WORDS],
     pub(crate) totals: [u64; TOTALS],
 }
 
 impl LiveFeed {
     /// Begins a feed with the number of cells, the idle current in mA and the 160 bytes of a rule section, which
-    /// [`rule_section`](crate::rule_section) makes. Refusals 3, 4, 6 and 7.
+    /// [`rule_bytes`](crate::rule_bytes) makes. Refusals 3, 4, 6 and 7.
     pub fn begin(cells: u8, idle: u16, rules: &[u8]) -> Result<LiveFeed, Refused> {
         let (mut words, mut totals) = ([0; WORDS], [0; TOTALS]);
         calls::live_begin(cells, idle, rules, &mut words, &mut totals)?;
@@ -84,6 +84,11 @@ impl LiveFeed {
         let reported = calls::live_report(self.cells, self.idle, &self.rules, &self.words, &self.totals, &mut bytes);
         reported.expect("what a feed keeps is a state");
         LiveReport::of(&bytes)
+    }
+
+    /// The tick that the next sample has to bear, and at which the next hole begins.
+    pub fn expected_tick(&self) -> u32 {
+        self.totals[3] as u32
     }
 
     /// The states of a rule that are possible, from 0 up to the rule's time; none for a rule above 15.

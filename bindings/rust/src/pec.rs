@@ -3,9 +3,9 @@ use crate::refusal::Refused;
 
 /// What [`check`] finds of a reply's address bytes and packet error code.
 #[derive(Clone, Copy, Debug, PartialEq, Eq, Hash)]
-pub enum Checked {
+pub enum Check {
     /// Both are right.
-    Intact,
+    Whole,
     /// An address byte is wrong.
     WrongAddress,
     /// The packet error code is wrong.
@@ -26,18 +26,18 @@ pub fn seal(command: u8, word: u16) -> [u8; 6] {
 /// Checks a reply's address bytes and packet error code. A reply that is not six bytes is refusal 15.
 ///
 /// ```
-/// use buttmitrel::{check, seal, Checked};
+/// use buttmitrel::{check, seal, Check};
 /// let mut reply = seal(0x0A, 1_500);
-/// assert_eq!(check(&reply), Ok(Checked::Intact));
+/// assert_eq!(check(&reply), Ok(Check::Whole));
 /// reply[5] ^= 1;
-/// assert_eq!(check(&reply), Ok(Checked::WrongPec));
+/// assert_eq!(check(&reply), Ok(Check::WrongPec));
 /// assert_eq!(check(&reply[..5]).unwrap_err().number, 15);
 /// ```
-pub fn check(reply: &[u8]) -> Result<Checked, Refused> {
+pub fn check(reply: &[u8]) -> Result<Check, Refused> {
     Ok(match calls::check(reply)? {
-        0 => Checked::Intact,
-        1 => Checked::WrongAddress,
-        2 => Checked::WrongPec,
+        0 => Check::Whole,
+        1 => Check::WrongAddress,
+        2 => Check::WrongPec,
         other => unreachable!("the library answered {other}"),
     })
 }

@@ -39,7 +39,7 @@ impl Display for Flag {
 
 /// The flags of a rule.
 #[derive(Clone, Copy, Debug, PartialEq, Eq, Hash)]
-pub struct RuleFlags {
+pub struct LiveRule {
     /// The threshold was met at the last evaluation, or the status is active.
     pub alert: Flag,
     /// The rule is active: it opens its MOSFETs and sets its bits.
@@ -63,20 +63,20 @@ pub struct RuleReport {
 #[derive(Clone, Copy, Debug, PartialEq, Eq, Hash)]
 pub struct Outputs {
     /// Whether the charge MOSFET (C) is open.
-    pub charge_open: Flag,
+    pub charge_mosfet_open: Flag,
     /// Whether the discharge MOSFET (D) is open.
-    pub discharge_open: Flag,
+    pub discharge_mosfet_open: Flag,
     /// Whether the fuse is commanded to blow.
-    pub fuse: Flag,
+    pub fuse_commanded: Flag,
 }
 
 /// Sums over the records.
 #[derive(Clone, Copy, Debug, PartialEq, Eq, Hash)]
 pub struct Totals {
     /// The sum of the positive currents, in mA seconds.
-    pub charge_in: u64,
+    pub charge_in_mas: u64,
     /// The sum of the sizes of the negative currents, in mA seconds.
-    pub charge_out: u64,
+    pub charge_out_mas: u64,
     /// The ticks of the holes.
     pub unseen_ticks: u32,
     /// All ticks, seen and unseen.
@@ -86,7 +86,7 @@ pub struct Totals {
 /// What [`judge()`](crate::judge()) says of an accepted trace.
 #[derive(Clone, Debug, PartialEq, Eq, Hash)]
 pub struct Report {
-    /// The sixteen rules, in the order of [`RULE_NAMES`](crate::RULE_NAMES).
+    /// The sixteen rules, in the order of [`RULE_SHORT_NAMES`](crate::RULE_SHORT_NAMES).
     pub rules: [RuleReport; 16],
     /// The outputs at the end.
     pub outputs: Outputs,
@@ -99,8 +99,8 @@ pub struct Report {
 /// What a [`LiveFeed`](crate::LiveFeed) says of what it was fed so far.
 #[derive(Clone, Copy, Debug, PartialEq, Eq, Hash)]
 pub struct LiveReport {
-    /// The sixteen rules, in the order of [`RULE_NAMES`](crate::RULE_NAMES).
-    pub rules: [RuleFlags; 16],
+    /// The sixteen rules, in the order of [`RULE_SHORT_NAMES`](crate::RULE_SHORT_NAMES).
+    pub rules: [LiveRule; 16],
     /// The outputs.
     pub outputs: Outputs,
     /// The totals.
@@ -121,22 +121,27 @@ fn tick_at(bytes: &Bytes, at: usize) -> Option<u32> {
     Some(u32_at(bytes, at)).filter(|&tick| tick != u32::MAX)
 }
 
-fn flags_of(bytes: &Bytes, rule: usize) -> RuleFlags {
-    RuleFlags { alert: Flag::of(bytes[10 * rule]), status: Flag::of(bytes[10 * rule + 1]) }
+fn flags_of(bytes: &Bytes, rule: usize) -> LiveRule {
+    LiveRule { alert: Flag::of(bytes[10 * rule]), status: Flag::of(bytes[10 * rule + 1]) }
 }
 
 fn rule_of(bytes: &Bytes, rule: usize) -> RuleReport {
-    let RuleFlags { alert, status } = flags_of(bytes, rule);
+    let LiveRule { alert, status } = flags_of(bytes, rule);
     let (first_possible_tick, first_held_tick) = (tick_at(bytes, 10 * rule + 2), tick_at(bytes, 10 * rule + 6));
     RuleReport { alert, status, first_possible_tick, first_held_tick }
 }
 
 fn outputs_of(bytes: &Bytes) -> Outputs {
-    Outputs { charge_open: Flag::of(bytes[160]), discharge_open: Flag::of(bytes[161]), fuse: Flag::of(bytes[162]) }
+    Outputs { charge_mosfet_open: Flag::of(bytes[160]), discharge_mosfet_open: Flag::of(bytes[161]), fuse_commanded: Flag::of(bytes[162]) }
 }
 
 fn totals_of(bytes: &Bytes) -> Totals {
-    Totals { charge_in: u64_at(bytes, 163), charge_out: u64_at(bytes, 171), unseen_ticks: u32_at(bytes, 179), ticks: u32_at(bytes, 183) }
+    Totals {
+        charge_in_mas: u64_at(bytes, 163),
+        charge_out_mas: u64_at(bytes, 171),
+        unseen_ticks: u32_at(bytes, 179),
+        ticks: u32_at(bytes, 183),
+    }
 }
 
 impl Report {

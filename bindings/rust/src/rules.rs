@@ -1,8 +1,8 @@
 /// The length of a rule section in bytes.
-pub const RULE_SECTION_BYTES: usize = 160;
+pub const RULES_BYTES: usize = 160;
 
 /// The names of the sixteen rules, rule 0 first.
-pub const RULE_NAMES: [&str; 16] = [
+pub const RULE_SHORT_NAMES: [&str; 16] = [
     "COV",
     "CUV",
     "POV",
@@ -40,13 +40,13 @@ impl Rule {
 /// The sixteen rules as the 160 bytes of a trace's rule section.
 ///
 /// ```
-/// use buttmitrel::{rule_section, Rule};
+/// use buttmitrel::{rule_bytes, Rule};
 /// let mut rules = [Rule::OFF; 16];
 /// rules[0] = Rule { threshold: 4_200, recovery: 4_100, time: 3 };
-/// assert_eq!(rule_section(&rules)[..10], [0x68, 0x10, 0, 0, 0x04, 0x10, 0, 0, 3, 0]);
+/// assert_eq!(rule_bytes(&rules)[..10], [0x68, 0x10, 0, 0, 0x04, 0x10, 0, 0, 3, 0]);
 /// ```
-pub fn rule_section(rules: &[Rule; 16]) -> [u8; RULE_SECTION_BYTES] {
-    let mut bytes = [0; RULE_SECTION_BYTES];
+pub fn rule_bytes(rules: &[Rule; 16]) -> [u8; RULES_BYTES] {
+    let mut bytes = [0; RULES_BYTES];
     for (rule, record) in rules.iter().zip(bytes.chunks_exact_mut(10)) {
         record[..4].copy_from_slice(&rule.threshold.to_le_bytes());
         record[4..8].copy_from_slice(&rule.recovery.to_le_bytes());

@@ -1,5 +1,5 @@
 // The captures of examples/ against their answers, which were worked out by hand.
-use buttmitrel::{judge, judge_into, net_charge, reply_count, Flag, Report, Verdict, RULE_NAMES};
+use buttmitrel::{judge, judge_into, net_charge, reply_count, Flag, Report, Verdict, RULE_SHORT_NAMES};
 use std::fs;
 use std::path::{Path, PathBuf};
 
@@ -29,9 +29,9 @@ fn digits(report: &Report) -> String {
         bytes.extend(rule.first_held_tick.unwrap_or(u32::MAX).to_le_bytes());
     }
     let (outputs, totals) = (report.outputs, report.totals);
-    bytes.extend([outputs.charge_open, outputs.discharge_open, outputs.fuse].map(|flag| flag as u8));
-    bytes.extend(totals.charge_in.to_le_bytes());
-    bytes.extend(totals.charge_out.to_le_bytes());
+    bytes.extend([outputs.charge_mosfet_open, outputs.discharge_mosfet_open, outputs.fuse_commanded].map(|flag| flag as u8));
+    bytes.extend(totals.charge_in_mas.to_le_bytes());
+    bytes.extend(totals.charge_out_mas.to_le_bytes());
     bytes.extend(totals.unseen_ticks.to_le_bytes());
     bytes.extend(totals.ticks.to_le_bytes());
     bytes.iter().map(|byte| format!("{byte:02x}")).collect()
@@ -70,9 +70,12 @@ fn fields_of_latched_fuse() {
     let (cov, sov) = (report.rules[0], report.rules[10]);
     assert_eq!((cov.status, cov.first_possible_tick, cov.first_held_tick), (Flag::Clear, Some(6), Some(6)));
     assert_eq!((sov.status, sov.first_possible_tick, sov.first_held_tick), (Flag::Held, Some(8), Some(8)));
-    assert_eq!((report.outputs.charge_open, report.outputs.discharge_open, report.outputs.fuse), (Flag::Held, Flag::Held, Flag::Held));
-    assert_eq!((report.totals.charge_in, report.totals.charge_out, report.totals.unseen_ticks), (18_000, 0, 1));
-    assert_eq!((net.least, net.greatest), (-14_768, 50_767));
+    assert_eq!(
+        (report.outputs.charge_mosfet_open, report.outputs.discharge_mosfet_open, report.outputs.fuse_commanded),
+        (Flag::Held, Flag::Held, Flag::Held)
+    );
+    assert_eq!((report.totals.charge_in_mas, report.totals.charge_out_mas, report.totals.unseen_ticks), (18_000, 0, 1));
+    assert_eq!((net.least_net_charge_mas, net.greatest_net_charge_mas), (-14_768, 50_767));
     assert!(report.verdicts.contains(&Verdict::Differs));
 }
 
@@ -95,5 +98,5 @@ fn names_of_the_document() {
     let document = fs::read_to_string(root().join("docs/FORMAT.md")).unwrap();
     let table = document.split("| no. | name |").nth(1).unwrap();
     let rows = table.lines().skip(2).take(16).map(|row| row.split(" | ").nth(1).unwrap());
-    assert!(rows.eq(RULE_NAMES));
+    assert!(rows.eq(RULE_SHORT_NAMES));
 }

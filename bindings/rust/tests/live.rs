@@ -1,12 +1,12 @@
 // The live feed: the story of tests/c_library.sh, the limits of each call, and states that are none.
-use buttmitrel::{check, rule_section, seal, Checked, Flag, LiveFeed, Refused, Rule};
+use buttmitrel::{check, rule_bytes, seal, Check, Flag, LiveFeed, Refused, Rule};
 
 const COV: Rule = Rule { threshold: 4_200, recovery: 4_100, time: 3 };
 
-fn section() -> [u8; 160] {
+fn over_voltage() -> [u8; 160] {
     let mut rules = [Rule::OFF; 16];
     rules[0] = COV;
-    rule_section(&rules)
+    rule_bytes(&rules)
 }
 
 fn refused(number: u32, place: u32) -> Refused {
@@ -19,7 +19,7 @@ fn take(feed: &mut LiveFeed, tick: u32, highest: u16) -> Result<(), Refused> {
 
 // Two seconds over the threshold, a hole of three, then 4,150 mV: states 0 and 3 are possible.
 fn story() -> LiveFeed {
-    let mut feed = LiveFeed::begin(3, 100, &section()).unwrap();
+    let mut feed = LiveFeed::begin(3, 100, &over_voltage()).unwrap();
     for (tick, highest) in [(0, 4_150), (1, 4_250), (2, 4_250)] {
         take(&mut feed, tick, highest).unwrap();
     }
@@ -39,9 +39,10 @@ fn a_hole_over_the_threshold() {
     assert!(feed.possible_states(0).eq([0, 3]));
     assert!(feed.possible_states(15).eq([0]));
     assert!(feed.possible_states(16).eq([]));
-    assert_eq!((report.outputs.charge_open, report.outputs.discharge_open), (Flag::Unknown, Flag::Clear));
-    assert_eq!((report.totals.charge_in, report.totals.unseen_ticks, report.totals.ticks), (6_000, 3, 7));
+    assert_eq!((report.outputs.charge_mosfet_open, report.outputs.discharge_mosfet_open), (Flag::Unknown, Flag::Clear));
+    assert_eq!((report.totals.charge_in_mas, report.totals.unseen_ticks, report.totals.ticks), (6_000, 3, 7));
     assert_eq!(feed.totals(), &[6_000, 0, 3, 7]);
+    assert_eq!(feed.expected_tick(), 7);
 }
 
 #[test]
@@ -52,7 +53,7 @@ fn refused_beginnings() {
     }
     let mut rules = [COV; 16];
     rules[4] = Rule { threshold: 1, recovery: 2, time: 1 };
-    assert_eq!(LiveFeed::begin(3, 0, &rule_section(&rules)), Err(refused(7, 1)));
+    assert_eq!(LiveFeed::begin(3, 0, &rule_bytes(&rules)), Err(refused(7, 1)));
 }
 
 // 15 comes before 9; a refused call leaves the feed as it was.
@@ -74,7 +75,7 @@ fn refused_samples_and_holes() {
 #[test]
 fn states_that_are_none() {
     let feed = story();
-    let (words, totals, rules) = (*feed.words(), *feed.totals(), section());
+    let (words, totals, rules) = (*feed.words(), *feed.totals(), over_voltage());
     let resume = |cells, idle, rules: &[u8], words: &[u64], totals: &[u64]| LiveFeed::resume(cells, idle, rules, words, totals);
     assert_eq!(resume(3, 100, &rules, &words, &totals), Ok(feed));
     let none = Err(refused(16, 0));
@@ -98,10 +99,10 @@ fn states_that_are_none() {
 fn replies() {
     assert_eq!(seal(0x16, 0), [0x16, 0x16, 0x17, 0, 0, 0xDE]);
     for word in (0..=u16::MAX).step_by(257) {
-        assert_eq!(check(&seal(word as u8, word)), Ok(Checked::Intact));
+        assert_eq!(check(&seal(word as u8, word)), Ok(Check::Whole));
     }
-    assert_eq!(check(&[0x16, 0x16, 0x16, 0, 0, 0xDE]), Ok(Checked::WrongAddress));
-    assert_eq!(check(&[0x16, 0x16, 0x17, 1, 0, 0xDE]), Ok(Checked::WrongPec));
+    assert_eq!(check(&[0x16, 0x16, 0x16, 0, 0, 0xDE]), Ok(Check::WrongAddress));
+    assert_eq!(check(&[0x16, 0x16, 0x17, 1, 0, 0xDE]), Ok(Check::WrongPec));
     assert_eq!(check(&[0; 7]), Err(refused(15, 0)));
 }
 
