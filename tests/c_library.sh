@@ -13,9 +13,9 @@ for command in cc cargo; do
     fi
 done
 mkdir -p "$out" || exit 1
-. tools/static_library.sh
-static_library buttmitrel buttmitrel_live || exit 1
-cc -std=c99 -Wall -Wextra -Werror -I include -o "$out/judge_c" examples/c/judge.c target/staticlib/libbuttmitrel.a target/staticlib/libbuttmitrel_live.a || exit 1
+. tools/library.sh
+library || exit 1
+cc -std=c99 -Wall -Wextra -Werror -I include -o "$out/judge_c" examples/c/judge.c target/lib/libbuttmitrel.a || exit 1
 CARGO_TARGET_DIR=$out/rust BUTTMITREL_LIB_DIR=$PWD/target/lib RUSTFLAGS='-D warnings' \
     cargo build --offline --quiet --manifest-path examples/rust/Cargo.toml && cp "$out/rust/debug/judge" "$out/judge_rust" || exit 1
 
