@@ -94,7 +94,7 @@ impl LiveFeed {
     /// The states of a rule that are possible, from 0 up to the rule's time; none for a rule above 15.
     pub fn possible_states(&self, rule: usize) -> impl Iterator<Item = u8> + '_ {
         let words = self.words.chunks_exact(5).nth(rule).unwrap_or(&[0; 5]);
-        (0..=u8::MAX).filter(|&s| words[s as usize / 64] >> (s % 64) & 1 == 1)
+        (0..=u8::MAX).filter(move |&s| words[s as usize / 64] >> (s % 64) & 1 == 1)
     }
 
     /// The possible states as words of bits: state s of rule i is possible if bit s % 64 of word 5 * i + s / 64 is 1.

@@ -1,5 +1,5 @@
 // The captures of examples/ against their answers, which were worked out by hand.
-use buttmitrel::{judge, judge_into, net_charge, reply_count, Flag, Report, Verdict, RULE_SHORT_NAMES};
+use buttmitrel::{judge, judge_into, net_charge, reply_count, Flag, LiveFeed, Report, Verdict, RULE_SHORT_NAMES};
 use std::fs;
 use std::path::{Path, PathBuf};
 
@@ -59,6 +59,44 @@ fn refused_captures() {
         assert_eq!(net_charge(&trace), Err(refused), "{name}");
         let counted = matches!(refused.number, 7..=10);
         assert_eq!(reply_count(&trace).err(), if counted { None } else { Some(refused) }, "{name}");
+    }
+}
+
+fn u16_at(bytes: &[u8], at: usize) -> u16 {
+    u16::from_le_bytes([bytes[at], bytes[at + 1]])
+}
+
+fn u32_at(bytes: &[u8], at: usize) -> u32 {
+    u32::from_le_bytes([bytes[at], bytes[at + 1], bytes[at + 2], bytes[at + 3]])
+}
+
+// A feed of an accepted trace's samples and holes, by tick.
+fn fed(trace: &[u8]) -> LiveFeed {
+    let cells = trace[1] as usize;
+    let holes_end = 168 + 8 * u16_at(trace, 166) as usize;
+    let samples_at = holes_end + 4 + 10 * u16_at(trace, holes_end) as usize;
+    let mut holes = trace[168..holes_end].chunks_exact(8).peekable();
+    let mut feed = LiveFeed::begin(trace[1], u16_at(trace, 2), &trace[6..166]).unwrap();
+    for sample in trace[samples_at..].chunks_exact(8 + 4 * cells) {
+        let tick = u32_at(sample, 0);
+        while let Some(hole) = holes.next_if(|hole| u32_at(hole, 0) < tick) {
+            feed.hole(u32_at(hole, 4)).unwrap();
+        }
+        let volts: Vec<u16> = (0..cells).map(|cell| u16_at(sample, 8 + 2 * cell)).collect();
+        let temps: Vec<i16> = (cells..2 * cells).map(|cell| u16_at(sample, 8 + 2 * cell) as i16).collect();
+        feed.sample(tick, u16_at(sample, 4) as i16, u16_at(sample, 6) as i16, &volts, &temps).unwrap();
+    }
+    holes.for_each(|hole| feed.hole(u32_at(hole, 4)).unwrap());
+    feed
+}
+
+#[test]
+fn fed_captures() {
+    for (name, trace, _) in captures("examples") {
+        let (report, live) = (judge(&trace).unwrap(), fed(&trace).report());
+        assert_eq!((report.outputs, report.totals), (live.outputs, live.totals), "{name}");
+        let flags = report.rules.map(|rule| (rule.alert, rule.status));
+        assert_eq!(flags, live.rules.map(|rule| (rule.alert, rule.status)), "{name}");
     }
 }
 
