@@ -1,5 +1,6 @@
 #!/usr/bin/env bash
-# bindings/rust: its tests, the examples of its documentation, how it finds the library, and that it has every function of the header.
+# bindings/rust: its tests, the examples of its documentation, how it finds the library, and that it has every function of the
+# header and the project's version.
 set -u
 cd "$(dirname "$0")/.." || exit 1
 root=$PWD
@@ -38,6 +39,10 @@ finds 0 "link-search=native=$root/target/lib" PKG_CONFIG_LIBDIR="$empty"
 finds 0 "link-search=native=$root/target/lib" PATH="$empty"
 finds 1 "set BUTTMITREL_LIB_DIR to the folder" PKG_CONFIG_LIBDIR="$empty" CARGO_MANIFEST_DIR="$empty"
 
+grep -qxF "version = \"$(cat VERSION)\"" bindings/rust/Cargo.toml || {
+    echo "rust_binding: the version in bindings/rust/Cargo.toml is not that of VERSION"
+    failed=1
+}
 functions=$(awk '/^uint64_t / { sub(/\(.*/, "", $2); print $2 }' include/buttmitrel.h)
 for function in ${functions:?}; do
     grep -qF "c::$function(" bindings/rust/src/calls.rs && continue
