@@ -6,17 +6,18 @@ set -u
 out=target/c_library
 failed=0
 
-for command in cc rustc; do
+for command in cc cargo; do
     if ! command -v "$command" >/dev/null; then
         echo "c_library: there is no $command"
         exit 1
     fi
 done
 mkdir -p "$out" || exit 1
-. tools/static_library.sh
-static_library buttmitrel buttmitrel_live || exit 1
-cc -std=c99 -Wall -Wextra -Werror -I include -o "$out/judge_c" examples/c/judge.c target/staticlib/libbuttmitrel.a target/staticlib/libbuttmitrel_live.a || exit 1
-rustc --edition 2021 -D warnings -o "$out/judge_rust" examples/rust/judge.rs -L target/staticlib -l static=buttmitrel -l static=buttmitrel_live || exit 1
+. tools/library.sh
+library || exit 1
+cc -std=c99 -Wall -Wextra -Werror -I include -o "$out/judge_c" examples/c/judge.c target/lib/libbuttmitrel.a || exit 1
+CARGO_TARGET_DIR=$out/rust BUTTMITREL_LIB_DIR=$PWD/target/lib RUSTFLAGS='-D warnings' \
+    cargo build --offline --quiet --manifest-path examples/rust/Cargo.toml && cp "$out/rust/debug/judge" "$out/judge_rust" || exit 1
 
 says() { # EXPECTED ARGUMENT...: both programs write these lines
     local expected=$1 program
