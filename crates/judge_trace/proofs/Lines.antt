@@ -1,4 +1,4 @@
--- Lines put at the start of 65,536 bytes.
+-- Lines put at the start of 8,192 bytes.
 use Prim.Native.Nat.{ℕ, _+_, _%_, _≤_}
 use mathlib.Core.Path.{_≡_, refl, ap, sym, _∙_}
 use mathlib.Core.List.{List, [], _∷_, _++_}
@@ -23,7 +23,7 @@ pub stands-as : (out : List ℕ) {t : List ℕ} {r : ℕ} (text text′ : List �
 stands-as out text text′ e (l, (put, counts)) = (l ∙ ap length e, (put ∙ ap (putAt out 0) e, counts))
 
 -- The line of a refusal fits.
-pub refusal-stands : (out : List ℕ) {t : List ℕ} {r : ℕ} (number place : ℕ) → 65536 ≡ length out
+pub refusal-stands : (out : List ℕ) {t : List ℕ} {r : ℕ} (number place : ℕ) → 8192 ≡ length out
     → (r ≡ putLength out (refusalLine number place)) × ((t ≡ putAt out 0 (refusalLine number place)) × Counts r t)
     → Stands out t r (refusalLine number place)
 refusal-stands out number place l (e, rest) =
@@ -31,7 +31,7 @@ refusal-stands out number place l (e, rest) =
     (e ∙ rw (le-leb (length line) (length out) (omega (arith, refusal-short number place))) refl, rest)
 
 -- The three lines, put one after the other.
-pub accepted-stands : (out report verdicts : List ℕ) {digits t u v w : List ℕ} → 65536 ≡ length out → length report ≡ 187 → length verdicts ≤ 65000
+pub accepted-stands : (out report verdicts : List ℕ) {digits t u v w : List ℕ} → 8192 ≡ length out → length report ≡ 187 → length verdicts ≤ 7000
     → digits ≡ verdictDigits verdicts → t ≡ putAt out 0 acceptedLine → u ≡ putAt t 9 (hexLine report) → v ≡ putAt u 384 digits
     → w ≡ putAt v (384 + length digits) (10 ∷ []) → Stands out w (385 + length digits) (acceptedLines report verdicts)
 accepted-stands out report verdicts {digits} {t} {u} {v} {w} l n few d first second third fourth =

@@ -13,9 +13,16 @@ use judge::Judged;
 use refusals::Refusal;
 use trace::ReplyCount;
 
+// Zeros for a text, or for the verdicts of a trace: a trace of 65,536 bytes has at most 6,536 replies.
+pub(crate) fn buffer() -> [u8; 8192]
+    ensures { λ r. ⌜ 8192 ≡ length r ⌝ }
+{
+    [0; 8192]
+}
+
 // Puts the three lines of a report and its verdicts, and answers their length.
 fn put_accepted(out: &mut [u8], report: [u8; 187], verdicts: &mut [u8]) -> usize
-    requires { ⌜ (65536 ≡ length (now out)) × (length (now verdicts) ≤ 65000) ⌝ }
+    requires { ⌜ (8192 ≡ length (now out)) × (length (now verdicts) ≤ 7000) ⌝ }
     ensures { λ r. ⌜ r ≡ length (acceptedLines report (now (verdicts .entry))) ⌝ }
     ensures { λ r. ⌜ now (out .exit) ≡ putAt (now (out .entry)) 0 (acceptedLines report (now (verdicts .entry))) ⌝ }
     ensures { λ r. ⌜ Counts r (now (out .exit)) ⌝ }
@@ -31,12 +38,12 @@ fn put_accepted(out: &mut [u8], report: [u8; 187], verdicts: &mut [u8]) -> usize
 
 // Judges a trace of n replies, puts its lines and answers their length.
 fn put_judged(s: &[u8], n: usize, out: &mut [u8]) -> usize
-    requires { ⌜ (65536 ≡ length (now out)) × (n ≤ 65000) × (answer n ≡ replyCount (walkAnswer (now s))) ⌝ }
+    requires { ⌜ (8192 ≡ length (now out)) × (n ≤ 7000) × (answer n ≡ replyCount (walkAnswer (now s))) ⌝ }
     ensures { λ r. ⌜ r ≡ length (linesOf (now (s .entry)) (acceptAnswer (now (s .entry)))) ⌝ }
     ensures { λ r. ⌜ now (out .exit) ≡ putAt (now (out .entry)) 0 (linesOf (now (s .entry)) (acceptAnswer (now (s .entry)))) ⌝ }
     ensures { λ r. ⌜ Counts r (now (out .exit)) ⌝ }
 {
-    let mut space = io::large_buffer();
+    let mut space = buffer();
     let mut report = [0u8; 187];
     let verdicts = &mut space[..n];
     match judge::judge(s, &mut report, verdicts) {
@@ -45,9 +52,9 @@ fn put_judged(s: &[u8], n: usize, out: &mut [u8]) -> usize
     }
 }
 
-// Puts the text for an input into 65,536 bytes, and answers its length.
+// Puts the text for an input into 8,192 bytes, and answers its length.
 pub(crate) fn put_text(s: &[u8], out: &mut [u8]) -> usize
-    requires { ⌜ 65536 ≡ length (now out) ⌝ }
+    requires { ⌜ 8192 ≡ length (now out) ⌝ }
     ensures length { λ r. ⌜ r ≡ length (programText (now (s .entry))) ⌝ }
     ensures bytes { λ r. ⌜ now (out .exit) ≡ putAt (now (out .entry)) 0 (programText (now (s .entry))) ⌝ }
     ensures counts { λ r. ⌜ Counts r (now (out .exit)) ⌝ }
