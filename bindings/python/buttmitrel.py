@@ -40,26 +40,24 @@ RULE_NAMES = (
     ("Cell Imbalance", "Cell Imbalance"),
 )
 
+# What each number of a refusal means, in the words of bindings/rust/src/meaning.rs.
 _MEANINGS = {
     1: "the trace is shorter than the four bytes of its head",
     2: "the version is not 1",
     3: "the number of cells is not 3 to 12",
     4: "the idle current is over 32766 mA",
     5: "a count or a section runs past the end of the trace",
-    6: "the number of rules is not 16",
+    6: "the rules are not 16 of 10 bytes each",
     7: "a rule that is on is outside its limits",
     8: "a hole is reversed, not after the hole before it, or ends at tick 4294967295",
-    9: "a tick is covered by no record or by two, or a record is left over",
-    10: "a reply is earlier than the reply before it, or past the last tick",
+    9: "the expected tick is covered by no record or by two, or there is no tick left",
+    10: "a reply is earlier than the reply before it, or after the last tick",
     11: "bytes are left over after the last section",
-    15: "a reply has not six bytes",
-}
-_LIVE_MEANINGS = {
-    **_MEANINGS,
-    8: "the hole ends before the expected tick, or at tick 4294967295",
-    9: "the sample is not that of the expected tick, or there is no tick left",
-    15: "volts or temps have not a number for each cell",
-    16: "this is no state of a feed",
+    12: "the report's buffer is not 187 bytes",
+    13: "the verdicts' buffer is not as long as there are replies",
+    14: "the program was given more than 65536 bytes",
+    15: "a list is not as long as the call asks for",
+    16: "what was lent is no state of a live feed",
 }
 
 # The report: for each rule alert, status and two first ticks; the outputs; the totals.
@@ -224,12 +222,12 @@ def _library() -> ctypes.CDLL:
     return library
 
 
-def _call(name: str, *arguments: Any, meanings: Mapping[int, str] = _MEANINGS) -> int:
+def _call(name: str, *arguments: Any) -> int:
     """The value of a call, or its refusal raised."""
     answer: int = getattr(_library(), name)(*arguments)
     number, value = divmod(answer, 1 << 32)
     if number != 0:
-        raise Refused(number, value, meanings.get(number, "a refusal that buttmitrel.py does not know; docs/FORMAT.md has them all"))
+        raise Refused(number, value, _MEANINGS.get(number, "a refusal that buttmitrel.py does not know; docs/FORMAT.md has them all"))
     return value
 
 
@@ -379,7 +377,7 @@ class LiveFeed:
 
     def _feed(self, name: str, *arguments: Any) -> None:
         state = (self._words, len(self._words), self._totals, len(self._totals))
-        _call(name, *self._head, *state, *arguments, meanings=_LIVE_MEANINGS)
+        _call(name, *self._head, *state, *arguments)
 
     def sample(self, tick: int, current: int, board: int, volts: Iterable[int], temps: Iterable[int]) -> None:
         """Takes the sample of the expected tick: current in mA, board temperature, the cells' voltages and temperatures."""

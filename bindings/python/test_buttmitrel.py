@@ -128,6 +128,11 @@ class Judging(RefusalCase):
         with concurrent.futures.ThreadPoolExecutor(4) as pool:
             self.assertEqual(list(pool.map(buttmitrel.judge, 20 * traces)), 20 * [buttmitrel.judge(trace) for trace in traces])
 
+    def test_meanings_are_those_of_the_rust_crate(self):
+        rust = (ROOT / "bindings/rust/src/meaning.rs").read_text(encoding="utf-8")
+        sentences = {int(number): sentence for number, sentence in re.findall(r'(\d+) => "(.*)"', rust)}
+        self.assertEqual(buttmitrel._MEANINGS, sentences)
+
     def test_a_refusal_passes_between_processes(self):
         refused = pickle.loads(pickle.dumps(Refused(9, 5, "a meaning")))
         self.assertEqual((refused.number, refused.place, refused.meaning), (9, 5, "a meaning"))

@@ -5,6 +5,8 @@ mod facts;
 mod json;
 mod refused;
 mod rules;
+#[path = "../../bindings/rust/src/meaning.rs"]
+mod meaning;
 #[path = "../trace/names.rs"]
 mod names;
 #[allow(dead_code)]

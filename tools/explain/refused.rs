@@ -1,5 +1,6 @@
 // A refusal in words, and where in the file to look (paper 01, 'Refusal numbers').
 use crate::accepted::tick_text;
+use crate::meaning::meaning;
 use crate::names::RULES;
 use crate::rules::title;
 use crate::trace_layout::{hole_of, idle_of, reply_of, rule_of, sample_of, sections, whole, Section, NAMES};
@@ -14,32 +15,21 @@ pub struct Refused {
     pub to_do: &'static str,
 }
 
-// What a refusal means, and what to do.
-fn meaning(number: u8) -> (&'static str, &'static str) {
+fn to_do(number: u8) -> &'static str {
     match number {
-        1 => ("the file is shorter than the four bytes of the head", "give a whole trace, which has at least 172 bytes"),
-        2 => ("the version is not 1", "write the trace in version 1"),
-        3 => ("the number of cells is not 3 to 12", "give the number of cells in series, 3 to 12"),
-        4 => ("the idle current is over 32766 mA", "give an idle current of 0 to 32766 mA"),
-        5 => ("a count or a section runs past the end of the file", "correct the count, or add the part of the file that is missing"),
-        6 => ("the number of rules is not 16", "give all 16 rules; one with time 0 is off"),
-        7 => ("a rule that is on is outside its limits", "bring its numbers inside the limits, or switch it off with time 0"),
-        8 => (
-            "a hole is reversed, not after the hole before it, or ends at tick 4294967295",
-            "let each hole begin after the one before it, and end at its first tick or later, before tick 4294967295",
-        ),
-        9 => (
-            "a tick is covered by no record or by two, or a record is left over",
-            "cover each tick from 0 on by one sample or one hole; samples and holes each in the order of their ticks",
-        ),
-        10 => (
-            "a reply is earlier than the reply before it, or past the last tick",
-            "give the replies in the order of their ticks, none past the last tick",
-        ),
-        11 => ("bytes are left over after the last section", "correct the count of the samples, or remove the bytes after the last one"),
-        14 => ("the file is longer than 65536 bytes", "cut the capture into shorter ones, or call the library, which takes longer traces"),
-        12 | 13 | 15 | 16 => ("a refusal of a call, which the program does not give", "give explain what the program wrote of this trace"),
-        _ => ("a number that paper 01 does not have", "give explain what the program wrote of this trace"),
+        1 => "give a whole trace, which has at least 172 bytes",
+        2 => "write the trace in version 1",
+        3 => "give the number of cells in series, 3 to 12",
+        4 => "give an idle current of 0 to 32766 mA",
+        5 => "correct the count, or add the part of the file that is missing",
+        6 => "give all 16 rules; one with time 0 is off",
+        7 => "bring its numbers inside the limits, or switch it off with time 0",
+        8 => "let each hole begin after the one before it, and end at its first tick or later, before tick 4294967295",
+        9 => "cover each tick from 0 on by one sample or one hole; samples and holes each in the order of their ticks",
+        10 => "give the replies in the order of their ticks, none after the last tick",
+        11 => "correct the count of the samples, or remove the bytes after the last one",
+        14 => "cut the capture into shorter ones, or call the library, which takes longer traces",
+        _ => "give explain what the program wrote of this trace",
     }
 }
 
@@ -178,11 +168,10 @@ fn byte_of(sections: &[Section], trace: &[u8], number: u8, place: u32) -> Option
 
 pub fn read(trace: &[u8], number: u8, place: u32) -> Refused {
     let sections = sections(trace);
-    let (meaning, to_do) = meaning(number);
     let look = place_text(&sections, trace, number, place);
     let byte = look.as_ref().and_then(|_| byte_of(&sections, trace, number, place));
     let look = look.unwrap_or("The trace has no such place.".to_string());
-    Refused { number, place, meaning, look, byte, to_do }
+    Refused { number, place, meaning: meaning(number as u32), look, byte, to_do: to_do(number) }
 }
 
 pub fn text(refused: &Refused) -> String {

@@ -1,4 +1,4 @@
-// What each number of a refusal means (docs/FORMAT.md, 'Refusals').
+// What each number of a refusal means (docs/FORMAT.md, 'Refusals'). tools/explain has this file too, and Python the same sentences.
 pub fn meaning(number: u32) -> &'static str {
     match number {
         1 => "the trace is shorter than the four bytes of its head",
@@ -7,16 +7,16 @@ pub fn meaning(number: u32) -> &'static str {
         4 => "the idle current is over 32766 mA",
         5 => "a count or a section runs past the end of the trace",
         6 => "the rules are not 16 of 10 bytes each",
-        7 => "the rule at this place is on and outside its limits",
+        7 => "a rule that is on is outside its limits",
         8 => "a hole is reversed, not after the hole before it, or ends at tick 4294967295",
-        9 => "the expected tick, which is the place, has no record, has two, or is 4294967295",
-        10 => "the reply at this place is earlier than the reply before it, or after the last tick",
+        9 => "the expected tick is covered by no record or by two, or there is no tick left",
+        10 => "a reply is earlier than the reply before it, or after the last tick",
         11 => "bytes are left over after the last section",
         12 => "the report's buffer is not 187 bytes",
         13 => "the verdicts' buffer is not as long as there are replies",
         14 => "the program was given more than 65536 bytes",
         15 => "a list is not as long as the call asks for",
         16 => "what was lent is no state of a live feed",
-        _ => "a number that this crate does not know",
+        _ => "a number that is not known here",
     }
 }
