@@ -6,7 +6,7 @@ set -u
 out=target/c_library
 failed=0
 
-for command in cc rustc; do
+for command in cc cargo; do
     if ! command -v "$command" >/dev/null; then
         echo "c_library: there is no $command"
         exit 1
@@ -16,7 +16,8 @@ mkdir -p "$out" || exit 1
 . tools/library.sh
 library || exit 1
 cc -std=c99 -Wall -Wextra -Werror -I include -o "$out/judge_c" examples/c/judge.c target/lib/libbuttmitrel.a || exit 1
-rustc --edition 2021 -D warnings -o "$out/judge_rust" examples/rust/judge.rs -L target/lib -l static=buttmitrel || exit 1
+CARGO_TARGET_DIR=$out/rust BUTTMITREL_LIB_DIR=$PWD/target/lib RUSTFLAGS='-D warnings' \
+    cargo build --offline --quiet --manifest-path examples/rust/Cargo.toml && cp "$out/rust/debug/judge" "$out/judge_rust" || exit 1
 
 says() { # EXPECTED ARGUMENT...: both programs write these lines
     local expected=$1 program

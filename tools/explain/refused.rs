@@ -1,24 +1,35 @@
 // A refusal in words, and where in the file to look (paper 01, 'Refusal numbers').
-use crate::accepted::{tick_text, title};
+use crate::accepted::tick_text;
+use crate::meaning::meaning;
 use crate::names::RULES;
+use crate::rules::title;
 use crate::trace_layout::{hole_of, idle_of, reply_of, rule_of, sample_of, sections, whole, Section, NAMES};
 
-fn meaning(number: u8) -> &'static str {
+// `look` says where in the file to look, and `byte` is where what is refused begins, for refusals that have one such place.
+pub struct Refused {
+    pub number: u8,
+    pub place: u32,
+    pub meaning: &'static str,
+    pub look: String,
+    pub byte: Option<usize>,
+    pub to_do: &'static str,
+}
+
+fn to_do(number: u8) -> &'static str {
     match number {
-        1 => "the file is shorter than the four bytes of the head",
-        2 => "the version is not 1",
-        3 => "the number of cells is not 3 to 12",
-        4 => "the idle current is over 32766 mA",
-        5 => "a count or a section runs past the end of the file",
-        6 => "the number of rules is not 16",
-        7 => "a rule that is on is outside its limits",
-        8 => "a hole is reversed, not after the hole before it, or ends at tick 4294967295",
-        9 => "a tick is covered by no record or by two, or a record is left over",
-        10 => "a reply is earlier than the reply before it, or past the last tick",
-        11 => "bytes are left over after the last section",
-        14 => "the file is longer than 65536 bytes",
-        12 | 13 | 15 | 16 => "a refusal of a call, which the program does not give",
-        _ => "a number that paper 01 does not have",
+        1 => "give a whole trace, which has at least 172 bytes",
+        2 => "write the trace in version 1",
+        3 => "give the number of cells in series, 3 to 12",
+        4 => "give an idle current of 0 to 32766 mA",
+        5 => "correct the count, or add the part of the file that is missing",
+        6 => "give all 16 rules; one with time 0 is off",
+        7 => "bring its numbers inside the limits, or switch it off with time 0",
+        8 => "let each hole begin after the one before it, and end at its first tick or later, before tick 4294967295",
+        9 => "cover each tick from 0 on by one sample or one hole; samples and holes each in the order of their ticks",
+        10 => "give the replies in the order of their ticks, none after the last tick",
+        11 => "correct the count of the samples, or remove the bytes after the last one",
+        14 => "cut the capture into shorter ones, or call the library, which takes longer traces",
+        _ => "give explain what the program wrote of this trace",
     }
 }
 
@@ -138,8 +149,32 @@ fn place_text(sections: &[Section], trace: &[u8], number: u8, place: u32) -> Opt
     })
 }
 
-pub fn explained(trace: &[u8], number: u8, place: u32) -> String {
-    let look = place_text(&sections(trace), trace, number, place);
+// Where what is refused begins. For 5 that is the count that is too large or missing.
+fn byte_of(sections: &[Section], trace: &[u8], number: u8, place: u32) -> Option<usize> {
+    let index = place as usize;
+    match number {
+        2 => Some(0),
+        3 => Some(1),
+        4 => Some(2),
+        5 => Some(sections.last().map_or(4, |s| if s.end() > trace.len() { s.count_at } else { s.end() })),
+        6 => Some(4),
+        7 => Some(sections[0].place(index)),
+        8 => Some(sections[1].place(index)),
+        10 => Some(sections[2].place(index)),
+        11 => Some(sections[3].end()),
+        _ => None,
+    }
+}
+
+pub fn read(trace: &[u8], number: u8, place: u32) -> Refused {
+    let sections = sections(trace);
+    let look = place_text(&sections, trace, number, place);
+    let byte = look.as_ref().and_then(|_| byte_of(&sections, trace, number, place));
     let look = look.unwrap_or("The trace has no such place.".to_string());
-    format!("Refused, number {number} at {place}: {}.\n{look}\n", meaning(number))
+    Refused { number, place, meaning: meaning(number as u32), look, byte, to_do: to_do(number) }
+}
+
+pub fn text(refused: &Refused) -> String {
+    let Refused { number, place, meaning, look, to_do, .. } = refused;
+    format!("Refused, number {number} at {place}: {meaning}.\n{look}\nWhat to do: {to_do}.\n")
 }

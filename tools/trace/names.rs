@@ -70,6 +70,11 @@ pub const COMMANDS: [&str; 29] = [
 // The alarm bits of BatteryStatus that the rules set.
 const ALARMS: [(u16, &str); 3] = [(0x4000, "TCA"), (0x1000, "OTA"), (0x0800, "TDA")];
 
+// The names of the alarms that a word of BatteryStatus sets.
+pub fn alarms(word: u16) -> Vec<&'static str> {
+    ALARMS.iter().filter(|a| word & a.0 != 0).map(|a| a.1).collect()
+}
+
 // The command and the word of six bus bytes.
 pub fn reply_text(bus: &[u8; 6]) -> String {
     let (command, word) = (bus[1], u16::from_le_bytes([bus[3], bus[4]]));
@@ -77,7 +82,7 @@ pub fn reply_text(bus: &[u8; 6]) -> String {
         (VOLTAGE, _) => format!("Voltage {word} mV"),
         (CURRENT, _) => format!("Current {} mA", word as i16),
         (BATTERY_STATUS, _) => {
-            let set: Vec<&str> = ALARMS.iter().filter(|a| word & a.0 != 0).map(|a| a.1).collect();
+            let set = alarms(word);
             let set = if set.is_empty() { "no alarm".to_string() } else { set.join(", ") };
             format!("BatteryStatus {word:04X}h ({set})")
         }

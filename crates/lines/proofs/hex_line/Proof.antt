@@ -1,19 +1,20 @@
-use Prim.Native.Nat.{_-_, _≤_}
-use mathlib.Core.Path.{_≡_, refl, sym, _∙_}
+use Prim.Native.Nat.{_-_}
+use mathlib.Core.Path.{refl}
 use native.Mathlib.Omega.{arith}
-use lib.ListN.{length, length-set}
+use lib.ListN.{length}
 use borrow.Author.Needs.{needs}
-use Rattle.lines.proofs.write_report.Statement.{statement}
-use Rattle.lines.proofs.write_report.Tie as tie
+use Rattle.lines.proofs.HexLines.{Hexing, hexing-start, hexing-next, hexing-end}
+use Rattle.lines.proofs.hex_line.Statement.{statement}
+use Rattle.lines.proofs.hex_line.Tie as tie
 
 abbrev Inv-loop : tie.InvT-loop
-Inv-loop report text₀ i₀ text i = (length text ≡ 375) × (i ≤ 187)
+Inv-loop report text₀ i₀ text i = Hexing report text i
 
 abbrev μ-loop : tie.MeasureT-loop
 μ-loop report text₀ i₀ text i = 187 - i
 
 loop-holds : tie.Need-loop-holds Inv-loop μ-loop
-loop-holds c = (refl, omega arith)
+loop-holds c = hexing-start _ _ refl refl
 
 array-read-byte : tie.Need-array-read-byte Inv-loop μ-loop
 array-read-byte c = omega arith
@@ -46,21 +47,13 @@ loop-less : tie.Need-loop-less Inv-loop μ-loop
 loop-less c = omega arith
 
 loop-again : tie.Need-loop-again Inv-loop μ-loop
-loop-again c =
-    let h = c .before .before .loop-test .taken in
-    simp length-set (c .before .before .before .loop .inv .0, omega arith)
-
-slice-aggregate-write-all : tie.Need-slice-aggregate-write-all Inv-loop μ-loop
-slice-aggregate-write-all c = sym (c .before .before .loop .inv .0)
-
-write-all-requires : tie.Need-write-all-requires Inv-loop μ-loop
-write-all-requires c κs = search needs
+loop-again c = hexing-next _ _ (search needs) (c .before .before .before .loop .inv) (c .before .before .loop-test .taken) (c .before .hex-digit .ensures) (c .hex-digit2 .ensures)
 
 returns : tie.Need-returns Inv-loop μ-loop
-returns c = search needs
+returns c = hexing-end (search needs) (c .before .loop .inv) (c .loop-test .left)
 
-pub write-report-spec : {M : Type 1} → statement M
-write-report-spec =
+pub hex-line-spec : {M : Type 1} → statement M
+hex-line-spec =
     tie.close
     (tie.spec
     Inv-loop
@@ -77,6 +70,4 @@ write-report-spec =
     add-i
     loop-less
     loop-again
-    slice-aggregate-write-all
-    write-all-requires
     returns)

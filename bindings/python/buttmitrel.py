@@ -1,0 +1,417 @@
+"""The judge of a battery bus analyzer from Python: one file over the shared library libbuttmitrel.so, with no packages.
+
+judge(trace) answers a Report; LiveFeed takes samples and holes one by one; seal and check are for replies of the bus. What the library
+refuses raises Refused. Numbers are in the trace's units: mV, mA, 0.1 degrees Celsius, mA seconds; a tick is a second.
+include/buttmitrel.h says what each call promises, docs/FORMAT.md what traces, reports and refusals are.
+"""
+import ctypes
+import ctypes.util
+import dataclasses
+import enum
+import functools
+import operator
+import os
+import struct
+from ctypes import POINTER, c_char_p, c_int16, c_int64, c_size_t, c_uint8, c_uint16, c_uint32, c_uint64
+from typing import Any, Dict, Iterable, List, Mapping, NamedTuple, Optional, Sequence, Tuple, Union
+
+__all__ = [
+    "Check", "Flag", "LiveFeed", "LiveReport", "LiveRule", "NetCharge", "Outputs", "RULE_NAMES", "Refused", "Report", "Rule",
+    "RuleReport", "Verdict", "check", "judge", "net_charge", "reply_count", "rule_bytes", "seal",
+]
+
+# The short name of each rule, and the manual's.
+RULE_NAMES = (
+    ("COV", "Cell Overvoltage"),
+    ("CUV", "Cell Undervoltage"),
+    ("POV", "Pack Overvoltage"),
+    ("PUV", "Pack Undervoltage"),
+    ("OC Charge", "Charge Overcurrent"),
+    ("OC Discharge", "Discharge Overcurrent"),
+    ("OT Charge", "Overtemperature Charge"),
+    ("OT Discharge", "Overtemperature Discharge"),
+    ("Board Over Temperature", "Board Overtemperature"),
+    ("Discharge Under Temperature", "Discharge Undertemperature"),
+    ("SOV", "Safety Cell Overvoltage"),
+    ("SOC Charge", "Safety Overcurrent Charge"),
+    ("SOC Discharge", "Safety Overcurrent Discharge"),
+    ("SOT Charge", "Safety Overtemperature Charge"),
+    ("SOT Discharge", "Safety Overtemperature Discharge"),
+    ("Cell Imbalance", "Cell Imbalance"),
+)
+
+# What each number of a refusal means, in the words of bindings/rust/src/meaning.rs.
+_MEANINGS = {
+    1: "the trace is shorter than the four bytes of its head",
+    2: "the version is not 1",
+    3: "the number of cells is not 3 to 12",
+    4: "the idle current is over 32766 mA",
+    5: "a count or a section runs past the end of the trace",
+    6: "the rules are not 16 of 10 bytes each",
+    7: "a rule that is on is outside its limits",
+    8: "a hole is reversed, not after the hole before it, or ends at tick 4294967295",
+    9: "the expected tick is covered by no record or by two, or there is no tick left",
+    10: "a reply is earlier than the reply before it, or after the last tick",
+    11: "bytes are left over after the last section",
+    12: "the report's buffer is not 187 bytes",
+    13: "the verdicts' buffer is not as long as there are replies",
+    14: "the program was given more than 65536 bytes",
+    15: "a list is not as long as the call asks for",
+    16: "what was lent is no state of a live feed",
+}
+
+# The report: for each rule alert, status and two first ticks; the outputs; the totals.
+_FLAGS = struct.Struct("<BB8x")
+_FIRST_TICKS = struct.Struct("<2xII")
+_OUTPUTS = struct.Struct("<BBB")
+_TOTALS = struct.Struct("<QQII")
+_REPORT_SIZE = 16 * _FLAGS.size + _OUTPUTS.size + _TOTALS.size
+_NO_TICK = 0xFFFFFFFF
+
+Bytes = Union[bytes, bytearray, memoryview]
+
+
+class Flag(enum.IntEnum):
+    """A three-way flag: UNKNOWN where the unseen ticks can have made it either."""
+
+    CLEAR = 0
+    HELD = 1
+    UNKNOWN = 2
+
+
+class Verdict(enum.IntEnum):
+    """The verdict on a reply."""
+
+    WRONG_ADDRESS = 1
+    WRONG_PEC = 2
+    OTHER_COMMAND = 3
+    AGREES = 4
+    DIFFERS = 5
+    CANNOT_TELL = 6
+
+
+class Check(enum.IntEnum):
+    """What check finds."""
+
+    WHOLE = 0
+    WRONG_ADDRESS = 1
+    WRONG_PEC = 2
+
+
+class Refused(Exception):
+    """A call was refused and has changed nothing: `number` and `place` of the refusal, and its `meaning`."""
+
+    def __init__(self, number: int, place: int, meaning: str) -> None:
+        super().__init__(number, place, meaning)
+        self.number = number
+        self.place = place
+        self.meaning = meaning
+
+    def __str__(self) -> str:
+        return f"refused {self.number} at {self.place}: {self.meaning}"
+
+
+class Rule(NamedTuple):
+    """The numbers of a rule. Time 0 switches it off; a rule from SOV on has recovery 0."""
+
+    threshold: int
+    recovery: int
+    time: int
+
+
+class Outputs(NamedTuple):
+    """Whether rules open the MOSFETs and command the fuse."""
+
+    charge_mosfet_open: Flag
+    discharge_mosfet_open: Flag
+    fuse_commanded: Flag
+
+
+@dataclasses.dataclass(frozen=True)
+class LiveRule:
+    """A rule as a live feed stands."""
+
+    number: int
+    short_name: str
+    name: str
+    alert: Flag
+    status: Flag
+
+
+@dataclasses.dataclass(frozen=True)
+class RuleReport(LiveRule):
+    """A rule at the end of a trace. The first ticks are those at which the status is held or unknown, and held; None is no tick."""
+
+    first_possible_tick: Optional[int]
+    first_held_tick: Optional[int]
+
+
+@dataclasses.dataclass(frozen=True)
+class LiveReport:
+    """What a live feed says of the samples and holes so far. First ticks and verdicts belong to traces alone."""
+
+    rules: Tuple[LiveRule, ...]
+    outputs: Outputs
+    charge_in_mas: int
+    charge_out_mas: int
+    unseen_ticks: int
+    ticks: int
+
+
+@dataclasses.dataclass(frozen=True)
+class Report(LiveReport):
+    """What the judge says of a trace, with a verdict for each reply."""
+
+    rules: Tuple[RuleReport, ...]
+    verdicts: Tuple[Verdict, ...]
+
+
+class NetCharge(NamedTuple):
+    """The least and the greatest net charge, in minus out, that the unseen ticks allow."""
+
+    least_net_charge_mas: int
+    greatest_net_charge_mas: int
+
+
+Rules = Union[Bytes, Sequence[Rule], Mapping[str, Rule]]
+
+_BYTES = (c_char_p, c_size_t)
+_U8 = (POINTER(c_uint8), c_size_t)
+_FEED = (c_uint8, c_uint16, *_BYTES, POINTER(c_uint64), c_size_t, POINTER(c_uint64), c_size_t)
+_READINGS = (c_uint32, c_int16, c_int16, POINTER(c_uint16), c_size_t, POINTER(c_int16), c_size_t)
+_ARGUMENTS: Dict[str, Tuple[Any, ...]] = {
+    "buttmitrel_reply_count": _BYTES,
+    "buttmitrel_judge": (*_BYTES, *_U8, *_U8),
+    "buttmitrel_net_charge": (*_BYTES, POINTER(c_int64), c_size_t),
+    "buttmitrel_seal": (c_uint8, c_uint16, *_U8),
+    "buttmitrel_check": _BYTES,
+    "buttmitrel_live_begin": _FEED,
+    "buttmitrel_live_sample": (*_FEED, *_READINGS),
+    "buttmitrel_live_hole": (*_FEED, c_uint32),
+    "buttmitrel_live_report": (*_FEED, *_U8),
+}
+
+
+def _library_path() -> str:
+    """BUTTMITREL_LIBRARY, else beside this file, else the repository's, else what the loader finds."""
+    named = os.environ.get("BUTTMITREL_LIBRARY")
+    if named:
+        return named
+    here = os.path.dirname(os.path.realpath(__file__))
+    for folder in (here, os.path.join(here, "..", "..", "target", "lib")):
+        path = os.path.join(folder, "libbuttmitrel.so")
+        if os.path.exists(path):
+            return path
+    return ctypes.util.find_library("buttmitrel") or "libbuttmitrel.so"
+
+
+@functools.lru_cache(maxsize=None)
+def _library() -> ctypes.CDLL:
+    path = _library_path()
+    try:
+        library = ctypes.CDLL(path)
+        for name, arguments in _ARGUMENTS.items():
+            function = getattr(library, name)
+            function.argtypes = arguments
+            function.restype = c_uint64
+    except (OSError, AttributeError) as why:
+        raise OSError(
+            f"buttmitrel: no library of the judge: {why}. Install it with './buttmitrel install', or name the file "
+            "libbuttmitrel.so in the environment variable BUTTMITREL_LIBRARY."
+        ) from why
+    return library
+
+
+def _call(name: str, *arguments: Any) -> int:
+    """The value of a call, or its refusal raised."""
+    answer: int = getattr(_library(), name)(*arguments)
+    number, value = divmod(answer, 1 << 32)
+    if number != 0:
+        raise Refused(number, value, _MEANINGS.get(number, "a refusal that buttmitrel.py does not know; docs/FORMAT.md has them all"))
+    return value
+
+
+def _whole(name: str, value: Any, low: int, high: int) -> int:
+    """A whole number that its C type holds, so that none is wrapped."""
+    try:
+        number = operator.index(value)
+    except TypeError:
+        raise TypeError(f"{name} is {value!r}: give a whole number") from None
+    if not low <= number <= high:
+        raise ValueError(f"{name} is {number}: give a number from {low} to {high}")
+    return number
+
+
+def _u8(name: str, value: Any) -> int:
+    return _whole(name, value, 0, 0xFF)
+
+
+def _u16(name: str, value: Any) -> int:
+    return _whole(name, value, 0, 0xFFFF)
+
+
+def _u32(name: str, value: Any) -> int:
+    return _whole(name, value, 0, 0xFFFFFFFF)
+
+
+def _u64(name: str, value: Any) -> int:
+    return _whole(name, value, 0, 0xFFFFFFFFFFFFFFFF)
+
+
+def _i16(name: str, value: Any) -> int:
+    return _whole(name, value, -0x8000, 0x7FFF)
+
+
+def _i32(name: str, value: Any) -> int:
+    return _whole(name, value, -0x80000000, 0x7FFFFFFF)
+
+
+def _bytes(name: str, data: Any) -> bytes:
+    try:
+        return bytes(memoryview(data))
+    except TypeError:
+        raise TypeError(f"{name} is a {type(data).__name__}: give bytes") from None
+
+
+def _array(kind: Any, numbers: Iterable[int]) -> Any:
+    values = list(numbers)
+    return (kind * len(values))(*values)
+
+
+def _one_rule(rule: Any) -> bytes:
+    try:
+        threshold, recovery, time = rule
+    except (TypeError, ValueError):
+        raise TypeError(f"a rule is {rule!r}: give Rule(threshold, recovery, time)") from None
+    return struct.pack("<iiH", _i32("threshold", threshold), _i32("recovery", recovery), _u16("time", time))
+
+
+def rule_bytes(rules: Rules) -> bytes:
+    """The rules as in a trace, from a list of Rules or from a mapping of short names in which a rule that is missing is off."""
+    if isinstance(rules, (bytes, bytearray, memoryview)):
+        return bytes(rules)
+    if isinstance(rules, Mapping):
+        names = [short for short, _ in RULE_NAMES]
+        unknown = [name for name in rules if name not in names]
+        if unknown:
+            raise ValueError(f"there is no rule {unknown[0]!r}: give one of {', '.join(names)}")
+        rules = [rules.get(name, Rule(0, 0, 0)) for name in names]
+    return b"".join(map(_one_rule, rules))
+
+
+def reply_count(trace: Bytes) -> int:
+    """How many replies a trace has."""
+    data = _bytes("trace", trace)
+    return _call("buttmitrel_reply_count", data, len(data))
+
+
+def _live_report(report: bytes) -> LiveReport:
+    """What a report says beside first ticks."""
+    rules = []
+    for number, (alert, status) in enumerate(_FLAGS.iter_unpack(report[:160])):
+        rules.append(LiveRule(number, *RULE_NAMES[number], Flag(alert), Flag(status)))
+    outputs = Outputs(*map(Flag, _OUTPUTS.unpack_from(report, 160)))
+    return LiveReport(tuple(rules), outputs, *_TOTALS.unpack_from(report, 163))
+
+
+def _tick(number: int) -> Optional[int]:
+    return None if number == _NO_TICK else number
+
+
+def judge(trace: Bytes) -> Report:
+    """Judges a trace."""
+    data = _bytes("trace", trace)
+    buffer = (c_uint8 * _REPORT_SIZE)()
+    verdicts = (c_uint8 * reply_count(data))()
+    _call("buttmitrel_judge", data, len(data), buffer, len(buffer), verdicts, len(verdicts))
+    live = _live_report(bytes(buffer))
+    rules = []
+    for rule, (possible, held) in zip(live.rules, _FIRST_TICKS.iter_unpack(bytes(buffer)[:160])):
+        rules.append(RuleReport(**vars(rule), first_possible_tick=_tick(possible), first_held_tick=_tick(held)))
+    fields: Dict[str, Any] = {**vars(live), "rules": tuple(rules), "verdicts": tuple(map(Verdict, verdicts))}
+    return Report(**fields)
+
+
+def net_charge(trace: Bytes) -> NetCharge:
+    """The bounds of the net charge of a trace."""
+    data = _bytes("trace", trace)
+    bounds = (c_int64 * 2)()
+    _call("buttmitrel_net_charge", data, len(data), bounds, len(bounds))
+    return NetCharge(*bounds)
+
+
+def seal(command: int, word: int) -> bytes:
+    """The six bytes of a read-word reply."""
+    reply = (c_uint8 * 6)()
+    _call("buttmitrel_seal", _u8("command", command), _u16("word", word), reply, len(reply))
+    return bytes(reply)
+
+
+def check(reply: Bytes) -> Check:
+    """Whether the six bytes of a reply have the right addresses and packet error code."""
+    data = _bytes("reply", reply)
+    return Check(_call("buttmitrel_check", data, len(data)))
+
+
+class LiveFeed:
+    """Takes samples and holes one by one as an analyzer runs, each from the expected tick on. A feed is for one thread at a time."""
+
+    def __init__(self, cells: int, idle: int, rules: Rules) -> None:
+        """Begins a feed with the number of cells, the idle current in mA and the rules (see rule_bytes)."""
+        self._lend(cells, idle, rules, 80 * [0], 4 * [0])
+        self._feed("buttmitrel_live_begin")
+
+    @classmethod
+    def resume(cls, cells: int, idle: int, rules: Rules, words: Iterable[int], totals: Iterable[int]) -> "LiveFeed":
+        """The feed that began with these and had these words and totals, or refusal 16 where no feed has them."""
+        feed = cls.__new__(cls)
+        feed._lend(cells, idle, rules, words, totals)
+        feed.report()
+        return feed
+
+    def _lend(self, cells: int, idle: int, rules: Rules, words: Iterable[int], totals: Iterable[int]) -> None:
+        data = rule_bytes(rules)
+        self._head = (_u8("cells", cells), _u16("idle", idle), data, len(data))
+        self._words = _array(c_uint64, (_u64("a word", word) for word in words))
+        self._totals = _array(c_uint64, (_u64("a total", total) for total in totals))
+
+    def _feed(self, name: str, *arguments: Any) -> None:
+        state = (self._words, len(self._words), self._totals, len(self._totals))
+        _call(name, *self._head, *state, *arguments)
+
+    def sample(self, tick: int, current: int, board: int, volts: Iterable[int], temps: Iterable[int]) -> None:
+        """Takes the sample of the expected tick: current in mA, board temperature, the cells' voltages and temperatures."""
+        mv = _array(c_uint16, (_u16("a voltage", volt) for volt in volts))
+        tenths = _array(c_int16, (_i16("a temperature", temp) for temp in temps))
+        readings = (_u32("tick", tick), _i16("current", current), _i16("board", board))
+        self._feed("buttmitrel_live_sample", *readings, mv, len(mv), tenths, len(tenths))
+
+    def hole(self, last: int) -> None:
+        """Takes a hole from the expected tick up to and with its last tick."""
+        self._feed("buttmitrel_live_hole", _u32("last", last))
+
+    def report(self) -> LiveReport:
+        """The flags, outputs and totals as the feed stands."""
+        buffer = (c_uint8 * _REPORT_SIZE)()
+        self._feed("buttmitrel_live_report", buffer, len(buffer))
+        return _live_report(bytes(buffer))
+
+    @property
+    def expected_tick(self) -> int:
+        """The tick that the next sample or hole begins at."""
+        return self.totals[3]
+
+    @property
+    def words(self) -> Tuple[int, ...]:
+        """The possible states of the rules as the library keeps them, for resume."""
+        return tuple(self._words)
+
+    @property
+    def totals(self) -> Tuple[int, ...]:
+        """Charge in, charge out, unseen ticks and ticks, for resume."""
+        return tuple(self._totals)
+
+    def possible_states(self, rule: int) -> List[int]:
+        """The states that the rule of this number can have: above 0 it alerts, at its time its status is active."""
+        first = 5 * _whole("rule", rule, 0, 15)
+        return [state for state in range(320) if self._words[first + state // 64] >> state % 64 & 1]

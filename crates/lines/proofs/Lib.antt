@@ -1,0 +1,5 @@
+pub mod Decimals
+pub mod HexLines
+pub mod Refusals
+pub mod Texts
+pub mod Verdicts
