@@ -182,7 +182,7 @@ for verb in $verbs; do
     [[ -n $line && $manual == *$'\n'"$line"$'\n'* ]] || bad "the manual page has not what help says of $verb"
     "$door" help "$verb" >"$out/help_verb" && cmp -s "$out/help_verb" <("$door" "$verb" --help) || bad "help $verb and $verb --help differ"
     example=$(sed -n 's/^example: //p' "$out/help_verb")
-    HOME=$out/home run bash -c "$example"
+    run bash -c "${example/'~/'/'"$1"/'}" bash "$out/home"
     [ "$status" -eq 0 ] && [ -s "$out/written" ] && [ -n "$example" ] && continue
     bad "the example of $verb ended with status $status: $example"
     cat "$out/said"
