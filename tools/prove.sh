@@ -39,7 +39,7 @@ make_folder() { # CRATE
 }
 
 run_rt() { # CRATE WORD...
-    cd "$home/target/prove/$1" && exec rt "${@:2}" >log 2>&1 </dev/null
+    cd "$home/target/prove/$1" && exec setsid rt "${@:2}" >log 2>&1 </dev/null
 }
 
 # Starts each crate whose own crates are proved, as long as a processor is free.
@@ -93,6 +93,13 @@ wait_for_crate() {
     announce "$progress: $crate"
 }
 
+# Each run of rt has a process group of its own, once it has come so far.
+stop_all() {
+    local job
+    for job in "${!running[@]}"; do kill -- "-$job" "$job" 2>/dev/null; done
+    [ -z "$clock" ] || kill "$clock" 2>/dev/null
+}
+
 # Proves crates and those below them, each as soon as the crates that it names are proved, so many at a time as there are processors.
 prove() ( # WHAT CRATE...
     declare -A names=() state=() running=()
@@ -104,9 +111,7 @@ prove() ( # WHAT CRATE...
         make_folder "$crate" || exit 2
     done < <(crates_below "${@:2}")
     announce "proving and building $1: ${#order[@]} crates, which takes minutes the first time; the prover's words go to target/prove"
-    # each run of rt gets a process group of its own, so that all of it can be stopped
-    set -m
-    trap 'exec 2>/dev/null; for job in "${!running[@]}" $clock; do kill -- "-$job"; done' EXIT
+    trap 'stop_all' EXIT
     trap 'exit 2' INT TERM HUP
     while [ "$proved" -lt "${#order[@]}" ]; do
         start_crates

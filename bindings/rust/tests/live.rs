@@ -109,7 +109,7 @@ fn replies() {
 #[test]
 fn refusals_in_words() {
     let shown = refused(9, 5).to_string();
-    assert_eq!(shown, "refused 9 at 5: the expected tick, which is the place, has no record, has two, or is 4294967295");
+    assert_eq!(shown, "refused 9 at 5: the expected tick is covered by no record or by two, or there is no tick left");
     let mut meanings: Vec<&str> = (1..=16).map(|number| refused(number, 0).meaning()).collect();
     meanings.push(refused(17, 0).meaning());
     meanings.sort();
