@@ -1,4 +1,4 @@
--- Paper 01, 'Refusal numbers' and 'The program': the lines that the program writes, in ASCII.
+-- Paper 01, 'Refusal numbers': the lines that the program writes, in ASCII.
 use Prim.Native.Nat.{ℕ, zero, suc, _/_, _%_}
 use mathlib.Core.Bool.{cond}
 use mathlib.Core.List.{List, [], _∷_, _++_, map}
@@ -44,10 +44,10 @@ hexLine report = hexDigits report ++ (10 ∷ [])
 abbrev pub verdictDigits : List ℕ → List ℕ
 verdictDigits verdicts = map (λ v. glyph (v % 10)) verdicts
 
--- How many bytes of a line are put at the start of a buffer: all, or none where it does not fit.
-abbrev pub putLength : List ℕ → List ℕ → ℕ
-putLength buffer line = cond (leb (length line) (length buffer)) (length line) 0
-
 -- The three lines of an accepted trace: 'accepted', the report, the verdicts.
 abbrev pub acceptedLines : List ℕ → List ℕ → List ℕ
 acceptedLines report verdicts = acceptedLine ++ hexLine report ++ verdictDigits verdicts ++ (10 ∷ [])
+
+-- How many bytes of a line are put at the start of a buffer: all, or none where it does not fit.
+abbrev pub putLength : List ℕ → List ℕ → ℕ
+putLength buffer line = cond (leb (length line) (length buffer)) (length line) 0
