@@ -1,5 +1,5 @@
-// The library for programs in C and Rust (include/buttmitrel.h): each call answers a number, 0 or a verdict, or the number of
-// a refusal times 4,294,967,296 plus its place.
+// The library for programs in C and Rust (include/buttmitrel.h): each call answers a number below
+// 4,294,967,296, which is 0, a verdict or a count, or the number of a refusal times 4,294,967,296 plus its place.
 ghost use mathlib.Core.Path.{_≡_};
 ghost use Rattle.refusals.specs.Refusals.{refusal};
 ghost use Rattle.pec.specs.Reply.{sealAnswer, sealed, checkAnswer};

@@ -39,7 +39,7 @@ heldFrom tr i = u32At (traceReport tr) (10 * i + 6)
 abbrev pub ruleIn : Trace → ℕ → Rule
 ruleIn tr i = ruleOf (tr .config) i
 
--- A filling gives each tick of a trace's holes one sample of its layout. What it gives at other ticks is never looked at.
+-- A filling gives each tick of a trace's holes one sample of its layout. What it gives at other ticks up to the last is never looked at; past the last tick nothing is promised.
 abbrev pub Fills : Trace → (ℕ → Sample) → Type 0
 Fills tr f = (t : ℕ) → T (inHole (tr .holes) t) → Carried (tr .config .cells) (f t)
 

@@ -6,30 +6,9 @@ use lib.Dec.{ltb, leb}
 use lib.ListN.{length}
 use Rattle.io.specs.Digits.{glyph, digits}
 
--- 'refused '
-abbrev pub refusedWord : List ℕ
-refusedWord = 114 ∷ 101 ∷ 102 ∷ 117 ∷ 115 ∷ 101 ∷ 100 ∷ 32 ∷ []
-
--- ' at '
-abbrev pub atWord : List ℕ
-atWord = 32 ∷ 97 ∷ 116 ∷ 32 ∷ []
-
 -- 'accepted' and the end of the line
 abbrev pub acceptedLine : List ℕ
 acceptedLine = 97 ∷ 99 ∷ 99 ∷ 101 ∷ 112 ∷ 116 ∷ 101 ∷ 100 ∷ 10 ∷ []
-
--- A number of at most k + 1 digits in decimal: below ten its digit, else the decimal of its tenth and its last digit.
-unfoldable pub decimalUpTo : ℕ → ℕ → List ℕ
-decimalUpTo zero n = glyph (n % 10) ∷ []
-decimalUpTo (suc k) n = cond (ltb n 10) (glyph (n % 10) ∷ []) (decimalUpTo k (n / 10) ++ (glyph (n % 10) ∷ []))
-
--- A number of 64 bits in decimal.
-abbrev pub decimal : ℕ → List ℕ
-decimal n = decimalUpTo 19 n
-
--- The line of a refusal: its number and its place in decimal.
-abbrev pub refusalLine : ℕ → ℕ → List ℕ
-refusalLine number place = (refusedWord ++ decimal number) ++ (atWord ++ decimal place) ++ (10 ∷ [])
 
 -- Bytes as lower-case hex digits, two each.
 unfoldable pub hexDigits : List ℕ → List ℕ
@@ -47,6 +26,27 @@ verdictDigits verdicts = map (λ v. glyph (v % 10)) verdicts
 -- The three lines of an accepted trace: 'accepted', the report, the verdicts.
 abbrev pub acceptedLines : List ℕ → List ℕ → List ℕ
 acceptedLines report verdicts = acceptedLine ++ hexLine report ++ verdictDigits verdicts ++ (10 ∷ [])
+
+-- 'refused '
+abbrev pub refusedWord : List ℕ
+refusedWord = 114 ∷ 101 ∷ 102 ∷ 117 ∷ 115 ∷ 101 ∷ 100 ∷ 32 ∷ []
+
+-- ' at '
+abbrev pub atWord : List ℕ
+atWord = 32 ∷ 97 ∷ 116 ∷ 32 ∷ []
+
+-- A number of at most k + 1 digits in decimal: below ten its digit, else the decimal of its tenth and its last digit.
+unfoldable pub decimalUpTo : ℕ → ℕ → List ℕ
+decimalUpTo zero n = glyph (n % 10) ∷ []
+decimalUpTo (suc k) n = cond (ltb n 10) (glyph (n % 10) ∷ []) (decimalUpTo k (n / 10) ++ (glyph (n % 10) ∷ []))
+
+-- A number of 64 bits in decimal.
+abbrev pub decimal : ℕ → List ℕ
+decimal n = decimalUpTo 19 n
+
+-- The line of a refusal: its number and its place in decimal.
+abbrev pub refusalLine : ℕ → ℕ → List ℕ
+refusalLine number place = (refusedWord ++ decimal number) ++ (atWord ++ decimal place) ++ (10 ∷ [])
 
 -- How many bytes of a line are put at the start of a buffer: all, or none where it does not fit.
 abbrev pub putLength : List ℕ → List ℕ → ℕ

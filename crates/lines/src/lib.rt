@@ -98,7 +98,7 @@ pub fn put_report(buffer: &mut [u8], at: usize, report: [u8; 187])
     put_text(buffer, at, &text);
 }
 
-// Turns each verdict into its digit.
+// Turns each verdict into its digit, and a number above nine into its last digit.
 pub fn to_digits(verdicts: &mut [u8])
     ensures { λ _. ⌜ now (verdicts .exit) ≡ verdictDigits (now (verdicts .entry)) ⌝ }
 {

@@ -12,7 +12,7 @@ use crate::Row;
 use crate::Setting;
 use crate::Side;
 
-// How far apart the highest and the lowest cell are.
+// How far apart the highest and the lowest cell are; 0 where the first is the lower one.
 pub fn difference(highest: u16, lowest: u16) -> u16
     ensures { λ d. ⌜ d ≡ highest - lowest ⌝ }
 {
@@ -124,7 +124,7 @@ pub fn evaluated_at(row: Row, tick: u32) -> bool
     if row.even { tick % 2 == 0 } else { true }
 }
 
-// How often a rule is evaluated from first to last, both included.
+// How often a rule is evaluated from first to last, both included; 0 where last is before first.
 pub fn evaluations_in(row: Row, first: u32, last: u32) -> u64
     ensures { λ n. ⌜ n ≡ evaluations row first (suc last) ⌝ }
 {

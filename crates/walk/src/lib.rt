@@ -86,7 +86,9 @@ fn past_sample(c: Cursor, width: usize) -> Cursor
     }
 }
 
-// What comes next before the tick `to`: unseen ticks of a hole, up to its end or to `to`, else a sample of a width, else the end.
+// What comes next before the tick `to`: unseen ticks of a hole, up to its end or to `to`, else a sample of a width, else the end. A part of
+// the judge and of the feed, which lend the parts of an accepted trace: a hole or a sample that is cut off counts as none, and a sample's
+// own tick is not read.
 pub fn look_ahead(holes: &[u8], samples: &[u8], width: usize, c: Cursor, to: u32) -> Ahead
     ensures { λ r. ⌜ r ≡ ahead (now (holes .entry)) (now (samples .entry)) width c to ⌝ }
 {
