@@ -69,7 +69,24 @@ printf 'buttmitrel %s\ntoolchain %s\n' "$(cat "$root/VERSION")" "$(rt version)" 
 gives 0 version "$door" version
 gives 0 version "$door" --version
 
+# Output that goes nowhere.
+to() { # FILE COMMAND...
+    "${@:2}" >"$1"
+}
+closed() { # COMMAND...
+    "$@" >&-
+}
+for words in 'judge clean_charge.trace' 'explain clean_charge.trace' 'disassemble clean_charge.trace' help 'help judge' version; do
+    complains 'look at where standard output goes' to /dev/full "$door" $words
+    complains 'standard output is closed' closed "$door" $words
+done
+
 # Standard input, and names of every kind.
+mkdir dash
+cp clean_charge.trace dash/-
+run eval 'cd dash && "$door" explain <../09_coverage.trace'
+cd "$out" || exit 1
+[ "$status" -eq 1 ] && cmp -s written "$root/examples/refused/09_coverage.explain" || bad "a file named - is explained in place of standard input"
 gives 0 clean_charge.answer "$door" judge <clean_charge.trace
 gives 0 clean_charge.answer "$door" judge - <clean_charge.trace
 gives 1 09_coverage.answer "$door" feed < <(cat 09_coverage.trace)
@@ -132,7 +149,7 @@ for verb in judge explain records feed assemble disassemble; do
     complains "there is no ''" "$door" $verb ''
     complains "'folder' is a folder" "$door" $verb folder
     complains "standard input is a folder" "$door" $verb <folder
-    complains "there is no standard input" "$door" $verb <&-
+    complains "standard input is closed" "$door" $verb <&-
     complains "there is no option '--jsn'" "$door" $verb --jsn clean_charge.trace
 done
 if [ "$(id -u)" -ne 0 ]; then

@@ -21,10 +21,15 @@ bad() { # MESSAGE
     echo "install: $1"
 }
 
-./buttmitrel install --prefix "$temporary/first" >"$out/said" 2>&1 || {
+# Folders that are there keep their permissions; what is new can be read by all, whatever the caller's umask.
+mkdir -p "$temporary/first/lib" && chmod 2771 "$temporary/first/lib" || exit 1
+(umask 077 && ./buttmitrel install --prefix "$temporary/first") >"$out/said" 2>&1 || {
     cat "$out/said"
     exit 1
 }
+[ "$(stat -c %a "$temporary/first/lib")" = 2771 ] || bad "the install changes the permissions of a folder that was there"
+closed=$(find "$temporary/first" ! -perm -a+r ! -path "$temporary/first/lib" -print -quit)
+[ -z "$closed" ] || bad "not all may read $closed"
 names=$(grep -ralF "$root" "$temporary/first")
 [ -z "$names" ] || bad "these installed files name the repository's folder: $names"
 mv "$temporary/first" "$temporary/moved"

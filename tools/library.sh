@@ -1,4 +1,5 @@
 # The library for other programs, and the second program, which links it. Sourced.
+unset CDPATH
 home=$(cd "${BASH_SOURCE[0]%/*}/.." && pwd)
 . "$home/tools/prove.sh"
 

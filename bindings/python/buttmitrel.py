@@ -369,6 +369,11 @@ class LiveFeed:
         feed.report()
         return feed
 
+    def __reduce__(self) -> Tuple[Any, ...]:
+        """A copy, or a feed in another process, goes on by itself."""
+        cells, idle, rules, _ = self._head
+        return LiveFeed.resume, (cells, idle, rules, self.words, self.totals)
+
     def _lend(self, cells: int, idle: int, rules: Rules, words: Iterable[int], totals: Iterable[int]) -> None:
         data = rule_bytes(rules)
         self._head = (_u8("cells", cells), _u16("idle", idle), data, len(data))

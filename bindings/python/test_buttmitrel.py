@@ -1,6 +1,7 @@
 """The Python binding against the examples' answers, the story of the live feed, and wrong arguments: `python3 test_buttmitrel.py`."""
 import concurrent.futures
 import contextlib
+import copy
 import dataclasses
 import io
 import os
@@ -257,6 +258,11 @@ class Feeding(RefusalCase):
         feed.hole(5)
         again.hole(5)
         self.assertEqual((state(again), again.report()), (state(feed), feed.report()))
+        for other in (copy.copy(feed), copy.deepcopy(feed), pickle.loads(pickle.dumps(feed))):
+            before = state(feed)
+            self.assertEqual((state(other), other.report()), (before, feed.report()))
+            other.hole(9)
+            self.assertEqual(state(feed), before)
         words, totals = state(feed)
         for wrong in ((words[:79], totals), (words, totals[:3]), ((0, *words[1:]), totals), (words, (0, 0, 7, 6)), ([], [])):
             self.refuses((16, 0), LiveFeed.resume, 3, 100, OVER_VOLTAGE, *wrong)

@@ -16,7 +16,7 @@
 static int refused(uint64_t answer)
 {
     printf("refused %" PRIu32 " at %" PRIu32 "\n", buttmitrel_number(answer), buttmitrel_place(answer));
-    return 0;
+    return 1;
 }
 
 static int judge(const uint8_t *trace, size_t len)
@@ -98,6 +98,10 @@ int main(int argc, char **argv)
         return 2;
     }
     size_t len = fread(trace, 1, sizeof trace, file);
+    if (ferror(file)) {
+        perror(argv[1]);
+        return 2;
+    }
     fclose(file);
     if (len == sizeof trace) {
         fprintf(stderr, "%s: longer than any trace\n", argv[1]);

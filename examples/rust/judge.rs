@@ -56,8 +56,12 @@ fn main() -> ExitCode {
         Some(path) => judge_file(&path),
         None => Some(feed_live()),
     };
-    if let Some(Err(refused)) = answer {
-        println!("refused {} at {}", refused.number, refused.place);
+    match answer {
+        Some(Ok(())) => ExitCode::SUCCESS,
+        Some(Err(refused)) => {
+            println!("refused {} at {}", refused.number, refused.place);
+            ExitCode::from(1)
+        }
+        None => ExitCode::from(2),
     }
-    ExitCode::from(if answer.is_some() { 0 } else { 2 })
 }

@@ -59,7 +59,10 @@ fn main() {
     };
     let (trace, answer) = (read(trace), read(answer));
     match explained(as_json, &trace, &String::from_utf8_lossy(&answer)) {
-        Some(text) => std::io::stdout().write_all(text.as_bytes()).unwrap_or_else(|why| stop(1, why.to_string())),
+        Some(text) => std::io::stdout().write_all(text.as_bytes()).unwrap_or_else(|why| match why.kind() {
+            std::io::ErrorKind::BrokenPipe => exit(2),
+            _ => stop(2, format!("the answer can't be written, {why}: look at where standard output goes")),
+        }),
         None => stop(1, "the judge wrote something that is no answer to this trace".to_string()),
     }
 }

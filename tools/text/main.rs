@@ -50,7 +50,9 @@ fn main() {
             Err(fault) => stop(format!("assemble: {}, line {}: {}", source(file), fault.line, fault.message)),
         }
     };
-    if let Err(why) = std::io::stdout().write_all(&output) {
-        stop(format!("{job}: standard output: {why}"));
+    match std::io::stdout().write_all(&output) {
+        Err(why) if why.kind() == std::io::ErrorKind::BrokenPipe => exit(2),
+        Err(why) => stop(format!("{job}: the answer can't be written, {why}: look at where standard output goes")),
+        Ok(()) => {}
     }
 }
