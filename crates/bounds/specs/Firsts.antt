@@ -6,10 +6,11 @@ use lib.Dec.{ltb, leb, eqb}
 use lib.ListN.{getD}
 use Rattle.lists.specs.Lists.{someBelow}
 use Rattle.rules.specs.declared.Row.{Row}
+use Rattle.rules.specs.declared.Readings.{Readings}
 use Rattle.rules.specs.Table.{rowAt}
 use Rattle.rules.specs.Evaluation.{status}
 use Rattle.bounds.specs.Lanes.{paired}
-use Rattle.bounds.specs.Steps.{evaluationsOf}
+use Rattle.bounds.specs.Steps.{evaluationsOf, readable}
 
 -- No tick.
 abbrev pub none : ℕ
@@ -32,13 +33,18 @@ abbrev pub rulesRise : List ℕ → List ℕ → List ℕ → ℕ → Bool
 rulesRise lanes ss ss′ i =
     rises (getD lanes i 0) (getD ss i 0) (getD ss′ i 0) || rises (getD lanes i 0) (getD ss (16 + i) 0) (getD ss′ (16 + i) 0)
 
+-- The first ticks, with the states after a tick.
+abbrev pub firstsNoted : List ℕ → ℕ → List ℕ → List ℕ → List ℕ
+firstsNoted lanes tick ss fs =
+    paired (λ i. notedAt (getD lanes i 0) tick (getD ss i 0) (getD fs i 0)) (λ i. notedAt (getD lanes i 0) tick (getD ss (16 + i) 0) (getD fs (16 + i) 0))
+
 -- The first ticks after a seen tick, from the states before and after it: where none comes to the top there is nothing to note.
 unfoldable pub firstsSeen : List ℕ → ℕ → List ℕ → List ℕ → List ℕ → List ℕ
-firstsSeen lanes tick ss ss′ fs =
-    cond (someBelow 16 (rulesRise lanes ss ss′))
-    (paired (λ i. notedAt (getD lanes i 0) tick (getD ss′ i 0) (getD fs i 0))
-    (λ i. notedAt (getD lanes i 0) tick (getD ss′ (16 + i) 0) (getD fs (16 + i) 0)))
-    fs
+firstsSeen lanes tick ss ss′ fs = cond (someBelow 16 (rulesRise lanes ss ss′)) (firstsNoted lanes tick ss′ fs) fs
+
+-- The first ticks after a sample, where it and the lists can be read; else as they were.
+abbrev pub firstsRead : List ℕ → ℕ → Readings → List ℕ → List ℕ → List ℕ → List ℕ
+firstsRead lanes tick r ss ss′ fs = cond (readable r ss fs) (firstsSeen lanes tick ss ss′ fs) fs
 
 -- The tick of evaluation j, from 1 on, of those from tick first on.
 abbrev pub tickOf : Row → ℕ → ℕ → ℕ

@@ -2,8 +2,7 @@
 ghost use mathlib.Core.Path.{_≡_};
 ghost use Prim.Native.Nat.{_+_, _<_};
 ghost use lib.ListN.{getD, length, set};
-ghost use Rattle.bounds.specs.Lanes.{paired};
-ghost use Rattle.bounds.specs.Firsts.{noted, notedAt};
+ghost use Rattle.bounds.specs.Firsts.{noted, notedAt, firstsNoted};
 use crate::reading::is_top;
 
 pub(crate) const NONE: u32 = 0xFFFFFFFF;
@@ -29,7 +28,7 @@ fn note_lane(firsts: &mut [u32], j: usize, tick: u32, top: u8, s: u8)
 // Notes the tick of every state that is at the top.
 pub(crate) fn note_states(lanes: &[u8; 32], tick: u32, states: &[u8], firsts: &mut [u32])
     requires { ⌜ (length (now states) ≡ 32) × (length (now firsts) ≡ 32) ⌝ }
-    ensures { λ _. ⌜ now (firsts .exit) ≡ paired (λ i. notedAt (getD (now (lanes .entry)) i 0) tick (getD (now (states .entry)) i 0) (getD (now (firsts .entry)) i 0)) (λ i. notedAt (getD (now (lanes .entry)) i 0) tick (getD (now (states .entry)) (16 + i) 0) (getD (now (firsts .entry)) (16 + i) 0)) ⌝ }
+    ensures { λ _. ⌜ now (firsts .exit) ≡ firstsNoted (now (lanes .entry)) tick (now (states .entry)) (now (firsts .entry)) ⌝ }
 {
     let mut i: usize = 0;
     while i < 16 {

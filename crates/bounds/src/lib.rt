@@ -6,7 +6,7 @@ ghost use mathlib.Core.Bool.{cond};
 ghost use lib.Dec.{T};
 ghost use Rattle.bounds.specs.Plan.{testsOf, lanesOf};
 ghost use Rattle.bounds.specs.Steps.{sized, readable, Within32, statesSeen, statesMissed, flagsOfStates};
-ghost use Rattle.bounds.specs.Firsts.{firstsSeen, firstsMissed};
+ghost use Rattle.bounds.specs.Firsts.{firstsRead, firstsMissed};
 
 mod firsts;
 mod lanes;
@@ -76,7 +76,7 @@ pub fn see(
     firsts: &mut [u32],
 )
     ensures states { λ _. ⌜ now (states .exit) ≡ cond (readable r (now (states .entry)) (now (firsts .entry))) (statesSeen (now (tests .entry)) (now (lanes .entry)) idle tick r (now (states .entry))) (now (states .entry)) ⌝ }
-    ensures firsts { λ _. ⌜ now (firsts .exit) ≡ cond (readable r (now (states .entry)) (now (firsts .entry))) (firstsSeen (now (lanes .entry)) tick (now (states .entry)) (now (states .exit)) (now (firsts .entry))) (now (firsts .entry)) ⌝ }
+    ensures firsts { λ _. ⌜ now (firsts .exit) ≡ firstsRead (now (lanes .entry)) tick r (now (states .entry)) (now (states .exit)) (now (firsts .entry)) ⌝ }
     ensures within { λ _. ⌜ (T (readable r (now (states .entry)) (now (firsts .entry))) → Within32 r) ⌝ }
 {
     if 2147483647 < r.sum_of_cells {

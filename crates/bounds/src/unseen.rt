@@ -1,11 +1,11 @@
 // A run of unseen ticks of one rule.
 ghost use mathlib.Core.Path.{_≡_};
-ghost use Prim.Native.Nat.{suc, _+_, _-_, _<_, _≤_};
-ghost use lib.ListN.{getD, length, set};
-ghost use Rattle.rules.specs.Table.{rowAt};
+ghost use Prim.Native.Nat.{suc, _+_, _-_, _<_};
+ghost use lib.ListN.{length};
 ghost use Rattle.rules.specs.Evaluation.{evaluations};
-ghost use Rattle.bounds.specs.Steps.{leastMissed, greatestMissed, evaluationsOf};
-ghost use Rattle.bounds.specs.Firsts.{noted, tickOf, topTick};
+ghost use Rattle.bounds.specs.Steps.{leastMissed, greatestMissed};
+ghost use Rattle.bounds.specs.Firsts.{tickOf, topTick};
+ghost use Rattle.bounds.specs.inner.Unseen.{ruleMissed, ruleNoted};
 use crate::firsts::NONE;
 use crate::firsts::note;
 use rules::Row;
@@ -81,8 +81,8 @@ pub(crate) fn miss_rule(
     firsts: &mut [u32],
 )
     requires { ⌜ (i < 16) × (length (now states) ≡ 32) × (length (now firsts) ≡ 32) ⌝ }
-    ensures states { λ _. ⌜ now (states .exit) ≡ set (set (now (states .entry)) i (leastMissed top (row .recovers) (evaluations row first (suc last)) (getD (now (states .entry)) i 0))) (16 + i) (greatestMissed top (evaluations row first (suc last)) (getD (now (states .entry)) (16 + i) 0)) ⌝ }
-    ensures firsts { λ _. ⌜ now (firsts .exit) ≡ set (now (firsts .entry)) (16 + i) (noted (topTick row top first (evaluations row first (suc last)) (getD (now (states .entry)) (16 + i) 0)) (getD (now (firsts .entry)) (16 + i) 0)) ⌝ }
+    ensures states { λ _. ⌜ now (states .exit) ≡ ruleMissed row i top (evaluations row first (suc last)) (now (states .entry)) ⌝ }
+    ensures firsts { λ _. ⌜ now (firsts .exit) ≡ ruleNoted row i top first (evaluations row first (suc last)) (now (states .entry)) (now (firsts .entry)) ⌝ }
 {
     let n = rules::evaluations_in(row, first, last);
     let least = states[i];

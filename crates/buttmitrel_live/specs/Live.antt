@@ -10,6 +10,7 @@ use Rattle.rules.specs.Samples.{Sample}
 use Rattle.limits.specs.Limits.{settingsOf}
 use Rattle.report.specs.declared.Totals.{Totals}
 use Rattle.report.specs.Layout.{reportAnswer, reported}
+use Rattle.buttmitrel.specs.Code.{codeOf}
 use Rattle.live.specs.declared.Live.{Live}
 use Rattle.live.specs.State.{withSample, withHole}
 use Rattle.live.specs.Calls.{sampleAnswer, holeAnswer, ofGood, flagsRead}
@@ -74,6 +75,9 @@ keptState k = stateOf (k .cells) (k .idle) (k .rules) (k .words) (k .totals)
 -- A sample: the answer, and the lists afterwards.
 abbrev pub sampleCall : Kept → ℕ → Sample → Answer (Unit {0})
 sampleCall k tick x = ofKept (k .rules) (k .totals) (sampleAnswer (keptState k) tick x)
+
+abbrev pub sampleCode : Kept → ℕ → Sample → ℕ
+sampleCode k tick x = codeOf (sampleCall k tick x)
 
 abbrev pub sampleWords : Kept → ℕ → Sample → List ℕ
 sampleWords k tick x = listAfter (sampleCall k tick x) (withSample (keptState k) x .states .words) (k .words)

@@ -5,7 +5,7 @@ ghost use Rattle.rules.specs.Samples.{sampleOf};
 ghost use Rattle.states.specs.Records.{fresh};
 ghost use Rattle.live.specs.Calls.{beginAnswer};
 ghost use Rattle.buttmitrel.specs.Code.{codeOf};
-ghost use Rattle.buttmitrel_live.specs.Live.{listAfter, begunAnswer, kept, sampleCall, sampleWords, sampleTotals, holeCall, holeWords, holeTotals, reportCall, reportAfter};
+ghost use Rattle.buttmitrel_live.specs.Live.{listAfter, begunAnswer, kept, sampleCode, sampleWords, sampleTotals, holeCall, holeWords, holeTotals, reportCall, reportAfter};
 
 mod keeping;
 
@@ -47,7 +47,7 @@ pub extern "C" fn buttmitrel_live_sample(
     volts: &[u16],
     temps: &[i16],
 ) -> u64
-    ensures answer { λ n. ⌜ n ≡ codeOf (sampleCall (kept cells idle (now (rules .entry)) (now (words .entry)) (now (totals .entry))) tick (sampleOf current board (now (volts .entry)) (now (temps .entry)))) ⌝ }
+    ensures answer { λ n. ⌜ n ≡ sampleCode (kept cells idle (now (rules .entry)) (now (words .entry)) (now (totals .entry))) tick (sampleOf current board (now (volts .entry)) (now (temps .entry))) ⌝ }
     ensures words { λ _. ⌜ now (words .exit) ≡ sampleWords (kept cells idle (now (rules .entry)) (now (words .entry)) (now (totals .entry))) tick (sampleOf current board (now (volts .entry)) (now (temps .entry))) ⌝ }
     ensures totals { λ _. ⌜ now (totals .exit) ≡ sampleTotals (kept cells idle (now (rules .entry)) (now (words .entry)) (now (totals .entry))) tick (sampleOf current board (now (volts .entry)) (now (temps .entry))) ⌝ }
 {

@@ -3,16 +3,14 @@ ghost use mathlib.Core.Path.{_≡_};
 ghost use mathlib.Core.List.{List, map};
 ghost use Prim.Native.Nat.{ℕ, _/_, _≤_};
 ghost use lib.ListN.{getD, length};
-ghost use Rattle.refusals.specs.Refusals.{answer};
 ghost use Rattle.trace.specs.Records.{repliesIn};
-ghost use Rattle.trace.specs.Coverage.{repliesAnswer};
 ghost use Rattle.bounds.specs.Steps.{flagsOfStates};
 ghost use Rattle.verdicts.specs.declared.Tick.{Tick};
 ghost use Rattle.verdicts.specs.Verdicts.{verdictOf};
 ghost use Rattle.demands.specs.Verdicts.{verdictOn};
 ghost use Rattle.walk.specs.Walk.{startOf};
 ghost use Rattle.walk.specs.inner.Places.{shows};
-ghost use Rattle.judge.specs.inner.Walk.{configIn, Planned, alarmsOf, At, Known};
+ghost use Rattle.judge.specs.inner.Walk.{configIn, Planned, Answering, alarmsOf, At, Known};
 use crate::advance::Frame;
 use crate::advance::Stop;
 use crate::advance::advance;
@@ -97,7 +95,7 @@ pub(crate) fn judge_records(
     firsts: &mut [u32],
     verdicts: &mut [u8],
 )
-    requires { ⌜ Planned f (now tests) (now lanes) × At f (now holes) (now samples) start (now states) (now firsts) × (start .cursor .tick ≤ 1) × (repliesAnswer (f .ticks) (repliesIn (now replies)) 0 0 ≡ answer tt) × (length (now verdicts) ≡ length (now replies) / 10) × (length (now replies) ≤ 655350) ⌝ }
+    requires { ⌜ Planned f (now tests) (now lanes) × At f (now holes) (now samples) start (now states) (now firsts) × (start .cursor .tick ≤ 1) × Answering (f .ticks) (now replies) (now verdicts) ⌝ }
     ensures known { λ _. ⌜ Known (configIn f) (now (samples .entry)) (f .ticks) (now (states .exit)) (now (firsts .exit)) ⌝ }
     ensures verdicts { λ _. ⌜ now (verdicts .exit) ≡ map (verdictOn (configIn f) (shows (f .cells) (now (samples .entry)))) (repliesIn (now (replies .entry))) ⌝ }
 {

@@ -8,7 +8,6 @@ ghost use Rattle.io.specs.Digits.{glyph};
 ghost use Rattle.bytes_le.specs.Writing.{putAt};
 ghost use Rattle.refusals.specs.Refusals.{numberOf, placeOf};
 ghost use Rattle.lines.specs.Lines.{decimal, refusalLine, hexLine, verdictDigits, putLength};
-use libc::STDOUT_FILENO;
 use refusals::Refusal;
 
 // Puts a text over a buffer from a place on. Where it does not fit nothing is written.
@@ -107,11 +106,4 @@ pub fn to_digits(verdicts: &mut [u8])
         verdicts[i] = b'0' + verdicts[i] % 10;
         i += 1;
     }
-}
-
-// Writes the line of a refusal.
-pub fn write_refusal(why: Refusal) {
-    let mut line = [0u8; 64];
-    let n = put_refusal(&mut line, why);
-    io::write_all(STDOUT_FILENO, &line[..n]);
 }

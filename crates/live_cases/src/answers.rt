@@ -43,7 +43,9 @@ fn end(n: u64) {
 
 fn end_refusal(why: Refusal) {
     put(b' ');
-    lines::write_refusal(why);
+    let mut line = [0u8; 64];
+    let n = lines::put_refusal(&mut line, why);
+    io::write_all(STDOUT_FILENO, &line[..n]);
 }
 
 fn end_taken(next: u32) {

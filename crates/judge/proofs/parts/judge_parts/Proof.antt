@@ -28,7 +28,7 @@ judge-records-requires c κs =
     let g = c .before .before .before .before .before .before .before .before .before .before .before .before .before .before .pre in
     let e = c .before .before .before .before .before .start-at .ensures in
     let planned : Planned (c .before .before .before .before .before .before .before .before .before .before .before .before .before .before .args .f) (c .before .before .before .before .before .before .before .tests-of .result) (c .before .before .before .before .before .before .lanes-of .result) = record { tests = c .before .before .before .before .before .before .before .tests-of .ensures; lanes = c .before .before .before .before .before .before .lanes-of .ensures } in
-    (planned, stop-start g planned refl refl e, rw e (omega arith), g .ticksOfReplies, g .count, g .few)
+    (planned, stop-start g planned refl refl e, rw e (omega arith), (g .ticksOfReplies, g .count, g .few))
 
 totals-of-requires : tie.Need-totals-of-requires
 totals-of-requires c κs = search needs

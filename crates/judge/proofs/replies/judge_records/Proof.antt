@@ -16,7 +16,7 @@ abbrev μ-loop : tie.MeasureT-loop
 μ-loop holes samples replies tests lanes f states₀ firsts₀ verdicts₀ x₀ j₀ states firsts verdicts x j = length verdicts - j
 
 loop-holds : tie.Need-loop-holds Inv-loop μ-loop
-loop-holds c = let pre = c .before .before .before .before .before .before .pre in judging-start (pre .1) (pre .2) (pre .3) (pre .4)
+loop-holds c = let pre = c .before .before .before .before .before .before .pre in judging-start (pre .1) (pre .2) (pre .3 .0) (pre .3 .1)
 
 mul-at : tie.Need-mul-at Inv-loop μ-loop
 mul-at c = let l = in-replies (c .before .loop .inv) (c .loop-test .taken) in omega arith
@@ -35,19 +35,19 @@ advance-requires c κs =
     (c .before .before .before .before .before .before .before .before .before .before .before .pre .0, i .there, omega (arith, u, r .after, i .passed), omega (arith, u, r .covered))
 
 add-judge-here : tie.Need-add-judge-here Inv-loop μ-loop
-add-judge-here c = let within = in-replies (c .before .before .before .before .before .before .before .before .before .before .loop .inv) (c .before .before .before .before .before .before .before .before .before .loop-test .taken) in let few = c .before .before .before .before .before .before .before .before .before .before .before .before .before .before .before .before .before .pre .5 in omega arith
+add-judge-here c = let within = in-replies (c .before .before .before .before .before .before .before .before .before .before .loop .inv) (c .before .before .before .before .before .before .before .before .before .loop-test .taken) in let few = c .before .before .before .before .before .before .before .before .before .before .before .before .before .before .before .before .before .pre .3 .2 in omega arith
 
 add-judge-here-2 : tie.Need-add-judge-here-2 Inv-loop μ-loop
-add-judge-here-2 c = let within = in-replies (c .before .before .before .before .before .before .before .before .before .before .loop .inv) (c .before .before .before .before .before .before .before .before .before .loop-test .taken) in let few = c .before .before .before .before .before .before .before .before .before .before .before .before .before .before .before .before .before .pre .5 in omega arith
+add-judge-here-2 c = let within = in-replies (c .before .before .before .before .before .before .before .before .before .before .loop .inv) (c .before .before .before .before .before .before .before .before .before .loop-test .taken) in let few = c .before .before .before .before .before .before .before .before .before .before .before .before .before .before .before .before .before .pre .3 .2 in omega arith
 
 sub-judge-here : tie.Need-sub-judge-here Inv-loop μ-loop
-sub-judge-here c = let within = in-replies (c .before .before .before .before .before .before .before .before .before .before .loop .inv) (c .before .before .before .before .before .before .before .before .before .loop-test .taken) in let few = c .before .before .before .before .before .before .before .before .before .before .before .before .before .before .before .before .before .pre .5 in omega arith
+sub-judge-here c = let within = in-replies (c .before .before .before .before .before .before .before .before .before .before .loop .inv) (c .before .before .before .before .before .before .before .before .before .loop-test .taken) in let few = c .before .before .before .before .before .before .before .before .before .before .before .before .before .before .before .before .before .pre .3 .2 in omega arith
 
 part-judge-here-start : tie.Need-part-judge-here-start Inv-loop μ-loop
-part-judge-here-start c = let within = in-replies (c .before .before .before .before .before .before .before .before .before .before .loop .inv) (c .before .before .before .before .before .before .before .before .before .loop-test .taken) in let few = c .before .before .before .before .before .before .before .before .before .before .before .before .before .before .before .before .before .pre .5 in omega arith
+part-judge-here-start c = let within = in-replies (c .before .before .before .before .before .before .before .before .before .before .loop .inv) (c .before .before .before .before .before .before .before .before .before .loop-test .taken) in let few = c .before .before .before .before .before .before .before .before .before .before .before .before .before .before .before .before .before .pre .3 .2 in omega arith
 
 part-judge-here-end : tie.Need-part-judge-here-end Inv-loop μ-loop
-part-judge-here-end c = let within = in-replies (c .before .before .before .before .before .before .before .before .before .before .loop .inv) (c .before .before .before .before .before .before .before .before .before .loop-test .taken) in let few = c .before .before .before .before .before .before .before .before .before .before .before .before .before .before .before .before .before .pre .5 in omega arith
+part-judge-here-end c = let within = in-replies (c .before .before .before .before .before .before .before .before .before .before .loop .inv) (c .before .before .before .before .before .before .before .before .before .loop-test .taken) in let few = c .before .before .before .before .before .before .before .before .before .before .before .before .before .before .before .before .before .pre .3 .2 in omega arith
 
 judge-here-requires : tie.Need-judge-here-requires Inv-loop μ-loop
 judge-here-requires c κs = six-bytes (c .before .before .before .before .before .before .before .before .before .before .before .loop .inv) (c .before .before .before .before .before .before .before .before .before .before .loop-test .taken)
@@ -56,7 +56,7 @@ slice-write-verdicts : tie.Need-slice-write-verdicts Inv-loop μ-loop
 slice-write-verdicts c = c .before .before .before .before .before .before .before .before .before .before .before .loop-test .taken
 
 add-j : tie.Need-add-j Inv-loop μ-loop
-add-j c = let within = in-replies (c .before .before .before .before .before .before .before .before .before .before .before .before .loop .inv) (c .before .before .before .before .before .before .before .before .before .before .before .loop-test .taken) in let few = c .before .before .before .before .before .before .before .before .before .before .before .before .before .before .before .before .before .before .before .pre .5 in omega arith
+add-j c = let within = in-replies (c .before .before .before .before .before .before .before .before .before .before .before .before .loop .inv) (c .before .before .before .before .before .before .before .before .before .before .before .loop-test .taken) in let few = c .before .before .before .before .before .before .before .before .before .before .before .before .before .before .before .before .before .before .before .pre .3 .2 in omega arith
 
 loop-less : tie.Need-loop-less Inv-loop μ-loop
 loop-less c =
@@ -77,7 +77,7 @@ same-length-2 : tie.Need-same-length-2 Inv-loop μ-loop
 same-length-2 c = long-firsts (known-there (c .before .before .before .before .advance2 .ensures)) ∙ sym (long-firsts (c .before .before .before .before .before .before .before .before .before .before .before .before .before .before .before .pre .1 .known))
 
 same-length-3 : tie.Need-same-length-3 Inv-loop μ-loop
-same-length-3 c = c .before .before .before .before .before .before .before .before .loop .inv .count ∙ sym (c .before .before .before .before .before .before .before .before .before .before .before .before .before .before .before .pre .4)
+same-length-3 c = c .before .before .before .before .before .before .before .before .loop .inv .count ∙ sym (c .before .before .before .before .before .before .before .before .before .before .before .before .before .before .before .pre .3 .1)
 
 returns : tie.Need-returns Inv-loop μ-loop
 returns c = (known-there (c .before .before .before .before .advance2 .ensures), judging-end (c .before .before .before .before .before .before .before .before .loop .inv) (c .before .before .before .before .before .before .before .loop-test .left))
