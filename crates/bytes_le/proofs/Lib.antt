@@ -4,3 +4,4 @@ pub mod Spaced
 pub mod ByteLists
 pub mod AreBytes
 pub mod Puts
+pub mod Copying

@@ -10,15 +10,18 @@ use borrow.Author.Tests.{le-leb, lt-leb}
 use Rattle.bytes_le.specs.Writing.{bytesOf, putAt}
 use Rattle.bytes_le.proofs.ByteLists.{length-bytes}
 
--- Bytes that fit are stored one after the other; others leave the list as it is.
+-- Bytes that fit are stored one after the other.
 pub put-fits : (s : List ℕ) (at : ℕ) (bs : List ℕ) → at + length bs ≤ length s → putAt s at bs ≡ sets s at bs
 unfolding putAt
 put-fits s at bs h = rw (le-leb (at + length bs) (length s) h) (sym (sets-eq bs s at h))
 
-pub put-not : (s : List ℕ) (at count v : ℕ) → length s < at + count → s ≡ putAt s at (bytesOf count v)
+-- Those that do not fit leave it as it is.
+pub put-none : (s : List ℕ) (at : ℕ) (bs : List ℕ) → length s < at + length bs → s ≡ putAt s at bs
 unfolding putAt
-put-not s at count v h =
-    rw (length-bytes count v, lt-leb (at + count) (length s) h)
+put-none s at bs h = rw (lt-leb (at + length bs) (length s) h)
+
+pub put-not : (s : List ℕ) (at count v : ℕ) → length s < at + count → s ≡ putAt s at (bytesOf count v)
+put-not s at count v h = put-none s at (bytesOf count v) (omega (arith, length-bytes count v))
 
 -- What is put, and the bytes that are left of the number.
 pub record Putting (s₀ : List ℕ) (at count v : ℕ) (s : List ℕ) (i left rest : ℕ) : Type 0 where

@@ -3,7 +3,7 @@ ghost use mathlib.Core.Path.{_≡_};
 ghost use Prim.Native.Nat.{_+_, _*_, _<_};
 ghost use lib.ListN.{getD, length};
 ghost use mir.Syntax.{w16, w32};
-ghost use mir.Val.{toZ};
+ghost use mir.Val.{toZ, ofZ};
 ghost use Rattle.bytes_le.specs.Numbers.{u16At, u32At, i16At, i32At};
 ghost use Rattle.bytes_le.specs.Writing.{bytesOf, putAt};
 
@@ -32,6 +32,17 @@ pub fn signed16(v: u16) -> i16
         v as i16
     } else {
         !((65535 - v) as i16)
+    }
+}
+
+// The bits of a signed number.
+pub fn bits16(v: i16) -> u16
+    ensures { λ r. ⌜ r ≡ ofZ w16 v ⌝ }
+{
+    if v < 0 {
+        65535 - (!v as u16)
+    } else {
+        v as u16
     }
 }
 
@@ -107,5 +118,22 @@ pub fn put(buffer: &mut [u8], at: usize, count: usize, v: u64)
         rest = rest / 256;
         i += 1;
         left -= 1;
+    }
+}
+
+// Puts bytes over a buffer from a place on. Where they do not fit nothing is written.
+pub fn put_bytes(buffer: &mut [u8], at: usize, bytes: &[u8])
+    ensures { λ _. ⌜ now (buffer .exit) ≡ putAt (now (buffer .entry)) at (now (bytes .entry)) ⌝ }
+{
+    if buffer.len() < at {
+        return;
+    }
+    if buffer.len() - at < bytes.len() {
+        return;
+    }
+    let mut i: usize = 0;
+    while i < bytes.len() {
+        buffer[at + i] = bytes[i];
+        i += 1;
     }
 }

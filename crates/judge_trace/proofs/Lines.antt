@@ -10,7 +10,7 @@ use Rattle.io.specs.Counts.{Counts}
 use Rattle.io.specs.Digits.{glyph}
 use Rattle.bytes_le.specs.Writing.{putAt}
 use Rattle.lines.specs.Lines.{refusalLine, acceptedLine, acceptedLines, hexLine, verdictDigits, putLength}
-use Rattle.lines.proofs.Texts.{text-then, text-long}
+use Rattle.bytes_le.proofs.Copying.{put-then, put-long}
 use Rattle.lines.proofs.HexLines.{hex-line-length}
 use Rattle.lines.proofs.Refusals.{refusal-short}
 
@@ -44,18 +44,18 @@ accepted-stands out report verdicts {digits} {t} {u} {v} {w} l n few d first sec
     let same : length digits ≡ length zs = ap length d in
     let three : length (xs ++ ys ++ zs) ≡ 384 + length digits = length-append (xs ++ ys) zs ∙ omega (arith, two, same) in
     let four : length (acceptedLines report verdicts) ≡ 385 + length digits = length-append (xs ++ ys ++ zs) (10 ∷ []) ∙ omega (arith, three) in
-    let a : u ≡ putAt out 0 (xs ++ ys) = second ∙ ap (λ (s : List ℕ). putAt s 9 ys) first ∙ text-then out 0 xs ys (omega (arith, l, e)) in
+    let a : u ≡ putAt out 0 (xs ++ ys) = second ∙ ap (λ (s : List ℕ). putAt s 9 ys) first ∙ put-then out 0 xs ys (omega (arith, l, e)) in
     let b : v ≡ putAt out 0 (xs ++ ys ++ zs) =
     third
     ∙ ap (λ (s : List ℕ). putAt u 384 s) d
     ∙ ap (λ (s : List ℕ). putAt s 384 zs) a
     ∙ ap (λ (at : ℕ). putAt (putAt out 0 (xs ++ ys)) at zs) (omega (arith, two))
-    ∙ text-then out 0 (xs ++ ys) zs (omega (arith, l, two, long)) in
+    ∙ put-then out 0 (xs ++ ys) zs (omega (arith, l, two, long)) in
     let whole : w ≡ putAt out 0 (acceptedLines report verdicts) =
     fourth
     ∙ ap (λ (s : List ℕ). putAt s (384 + length digits) (10 ∷ [])) b
     ∙ ap (λ (at : ℕ). putAt (putAt out 0 (xs ++ ys ++ zs)) at (10 ∷ [])) (omega (arith, three))
-    ∙ text-then out 0 (xs ++ ys ++ zs) (10 ∷ []) (omega (arith, l, three, same, long)) in
-    let k : length w ≡ length out = ap length whole ∙ text-long out 0 (acceptedLines report verdicts) in
+    ∙ put-then out 0 (xs ++ ys ++ zs) (10 ∷ []) (omega (arith, l, three, same, long)) in
+    let k : length w ≡ length out = ap length whole ∙ put-long out 0 (acceptedLines report verdicts) in
     let fits : 385 + length digits ≤ length w = omega (arith, k, l, same, long) in
     (sym four, (whole, (fits, sym (length-take-le (385 + length digits) w fits))))

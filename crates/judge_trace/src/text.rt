@@ -29,10 +29,10 @@ fn put_accepted(out: &mut [u8], report: [u8; 187], verdicts: &mut [u8]) -> usize
 {
     lines::to_digits(verdicts);
     let n = verdicts.len();
-    lines::put_text(out, 0, b"accepted\n");
+    bytes_le::put_bytes(out, 0, b"accepted\n");
     lines::put_report(out, 9, report);
-    lines::put_text(out, 384, verdicts);
-    lines::put_text(out, 384 + n, b"\n");
+    bytes_le::put_bytes(out, 384, verdicts);
+    bytes_le::put_bytes(out, 384 + n, b"\n");
     385 + n
 }
 

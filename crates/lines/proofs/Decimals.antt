@@ -12,7 +12,7 @@ use borrow.Author.Tests.{lt-ltb, le-ltb}
 use Rattle.io.specs.Digits.{glyph, digits, Fewest}
 use Rattle.bytes_le.specs.Writing.{putAt}
 use Rattle.lines.specs.Lines.{decimalUpTo, decimal}
-use Rattle.lines.proofs.Texts.{text-then}
+use Rattle.bytes_le.proofs.Copying.{put-then}
 
 power-positive : (k : ℕ) → 1 ≤ 10 ^ k
 power-positive zero = omega arith
@@ -74,5 +74,5 @@ number-put s at word n k {text} {t} {u} l h b f e first second = (
   second
       ∙ ap (λ (z : List ℕ). putAt t (at + length word) z) (e ∙ digits-decimal n k b f)
       ∙ ap (λ (z : List ℕ). putAt z (at + length word) (decimal n)) first
-      ∙ text-then s at word (decimal n) (omega (arith, l, decimal-short 19 n)),
+      ∙ put-then s at word (decimal n) (omega (arith, l, decimal-short 19 n)),
 )

@@ -1,5 +1,4 @@
 pub mod Decimals
 pub mod HexLines
 pub mod Refusals
-pub mod Texts
 pub mod Verdicts

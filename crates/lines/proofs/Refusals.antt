@@ -11,7 +11,8 @@ use Rattle.io.specs.Counts.{Counts}
 use Rattle.bytes_le.specs.Writing.{putAt}
 use Rattle.lines.specs.Lines.{decimal, refusedWord, atWord, refusalLine, putLength}
 use Rattle.lines.proofs.Decimals.{decimal-short}
-use Rattle.lines.proofs.Texts.{text-not, text-then, text-long, text-read}
+use Rattle.bytes_le.proofs.Puts.{put-none}
+use Rattle.bytes_le.proofs.Copying.{put-then, put-long, put-read}
 
 -- What `put_number` leaves.
 abbrev pub NumberPut : List ℕ → List ℕ → ℕ → List ℕ → ℕ → ℕ → Type 0
@@ -21,7 +22,7 @@ NumberPut s t at word n end = (end ≡ at + length (word ++ decimal n)) × (t �
 pub number-short : (s : List ℕ) {t : List ℕ} (at : ℕ) (word : List ℕ) (n : ℕ) {end : ℕ} → NumberPut s t at word n end → 64 ≡ length s
     → (64 ≡ length t) × (end ≤ at + length word + 20)
 number-short s at word n p l = (
-  l ∙ sym (ap length (p .1) ∙ text-long s at (word ++ decimal n)),
+  l ∙ sym (ap length (p .1) ∙ put-long s at (word ++ decimal n)),
   omega (arith, p .0, length-append word (decimal n), decimal-short 19 n),
 )
 
@@ -54,12 +55,12 @@ refusal-put s {t} {u} {v} number place n p {a} {b} l e f first second third =
     second .1
     ∙ ap (λ (z : ℕ). putAt t z ys) at
     ∙ ap (λ (z : List ℕ). putAt z (0 + length xs) ys) (first .1)
-    ∙ text-then s 0 xs ys (omega (arith, l, short, whole, two)) in (
+    ∙ put-then s 0 xs ys (omega (arith, l, short, whole, two)) in (
       omega (arith, end, whole) ∙ ap length same,
       third
           ∙ ap (λ (z : ℕ). putAt u z (10 ∷ [])) end
           ∙ ap (λ (z : List ℕ). putAt z (0 + length (xs ++ ys)) (10 ∷ [])) both
-          ∙ text-then s 0 (xs ++ ys) (10 ∷ []) (omega (arith, l, short, whole))
+          ∙ put-then s 0 (xs ++ ys) (10 ∷ []) (omega (arith, l, short, whole))
           ∙ ap (putAt s 0) same,
     )
 
@@ -69,18 +70,18 @@ pub refusal-read : (s : List ℕ) {t : List ℕ} (number place : ℕ) {n : ℕ} 
 refusal-read s {t} number place {n} l (e, put) =
     let line : List ℕ = refusalLine number place in
     let short : length line ≤ length s = omega (arith, l, refusal-short number place) in
-    let long : length t ≡ length s = ap length put ∙ text-long s 0 line in
-    (omega (arith, e), ap₂ take e put ∙ text-read s line short)
+    let long : length t ≡ length s = ap length put ∙ put-long s 0 line in
+    (omega (arith, e), ap₂ take e put ∙ put-read s line short)
 
 -- A line that does not fit is not put.
 pub line-not : (s line : List ℕ) → length s < length line → (0 ≡ putLength s line) × ((s ≡ putAt s 0 line) × Counts 0 s)
-line-not s line h = (rw (lt-leb (length line) (length s) h) refl, (text-not s 0 line (omega arith), (omega arith, refl)))
+line-not s line h = (rw (lt-leb (length line) (length s) h) refl, (put-none s 0 line (omega arith), (omega arith, refl)))
 
 -- A line that fits is put whole.
 pub line-put : (s line : List ℕ) {t text : List ℕ} {n : ℕ} → n ≡ length line → n ≤ length s → text ≡ line → t ≡ putAt s 0 text
     → (n ≡ putLength s line) × ((t ≡ putAt s 0 line) × Counts n t)
 line-put s line {t} {text} {n} e h same put =
-    let l : length t ≡ length s = ap length put ∙ text-long s 0 text in (
+    let l : length t ≡ length s = ap length put ∙ put-long s 0 text in (
       e ∙ sym (rw (le-leb (length line) (length s) (omega arith)) refl),
       (put ∙ ap (putAt s 0) same, (omega arith, sym (length-take-le n t (omega arith)))),
     )

@@ -8,24 +8,8 @@ ghost use Rattle.io.specs.Digits.{glyph};
 ghost use Rattle.bytes_le.specs.Writing.{putAt};
 ghost use Rattle.refusals.specs.Refusals.{numberOf, placeOf};
 ghost use Rattle.lines.specs.Lines.{decimal, refusalLine, hexLine, verdictDigits, putLength};
+use bytes_le::put_bytes;
 use refusals::Refusal;
-
-// Puts a text over a buffer from a place on. Where it does not fit nothing is written.
-pub fn put_text(buffer: &mut [u8], at: usize, text: &[u8])
-    ensures { λ _. ⌜ now (buffer .exit) ≡ putAt (now (buffer .entry)) at (now (text .entry)) ⌝ }
-{
-    if buffer.len() < at {
-        return;
-    }
-    if buffer.len() - at < text.len() {
-        return;
-    }
-    let mut i: usize = 0;
-    while i < text.len() {
-        buffer[at + i] = text[i];
-        i += 1;
-    }
-}
 
 // Puts a word and a number in decimal, and answers where they end.
 fn put_number(line: &mut [u8], at: usize, word: &[u8], n: u64) -> usize
@@ -35,8 +19,8 @@ fn put_number(line: &mut [u8], at: usize, word: &[u8], n: u64) -> usize
 {
     let mut digits = [0u8; 20];
     let k = io::decimal(n, &mut digits);
-    put_text(line, at, word);
-    put_text(line, at + word.len(), &digits[..k]);
+    put_bytes(line, at, word);
+    put_bytes(line, at + word.len(), &digits[..k]);
     at + word.len() + k
 }
 
@@ -48,7 +32,7 @@ fn lay_refusal(line: &mut [u8], why: Refusal) -> usize
 {
     let a = put_number(line, 0, b"refused ", refusals::number(why) as u64);
     let b = put_number(line, a, b" at ", refusals::place(why) as u64);
-    put_text(line, b, b"\n");
+    put_bytes(line, b, b"\n");
     b + 1
 }
 
@@ -64,7 +48,7 @@ pub fn put_refusal(buffer: &mut [u8], why: Refusal) -> usize
     if buffer.len() < n {
         return 0;
     }
-    put_text(buffer, 0, &line[..n]);
+    put_bytes(buffer, 0, &line[..n]);
     n
 }
 
@@ -94,7 +78,7 @@ pub fn put_report(buffer: &mut [u8], at: usize, report: [u8; 187])
     ensures { λ _. ⌜ now (buffer .exit) ≡ putAt (now (buffer .entry)) at (hexLine report) ⌝ }
 {
     let text = hex_line(report);
-    put_text(buffer, at, &text);
+    put_bytes(buffer, at, &text);
 }
 
 // Turns each verdict into its digit, and a number above nine into its last digit.

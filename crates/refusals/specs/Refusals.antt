@@ -1,8 +1,8 @@
--- Paper 01, 'Refusal numbers': the number and the place of each reason, and what a call answers in the paper's numbers.
+-- Paper 01, 'Refusal numbers', and 17 of paper 02, item 1: the number and the place of each reason, and what a call answers in the paper's numbers.
 use Prim.Native.Nat.{ℕ}
 use mathlib.Core.Bool.{Bool, true, false}
 use Rattle.refusals.specs.declared.Refusal.{Refusal}
-use Rattle.refusals.specs.declared.Refusal.the-variants.{TooShort, Version, CellCount, IdleCurrent, PastEnd, RuleCount, Limits, Hole, Coverage, ReplyTick, LeftOver, ReportLength, VerdictLength, InputLength, BufferLength, State}
+use Rattle.refusals.specs.declared.Refusal.the-variants.{TooShort, Version, CellCount, IdleCurrent, PastEnd, RuleCount, Limits, Hole, Coverage, ReplyTick, LeftOver, ReportLength, VerdictLength, InputLength, BufferLength, State, HoleCount}
 
 -- The number of a reason.
 abbrev pub numberOf : Refusal → ℕ
@@ -22,6 +22,7 @@ numberOf VerdictLength = 13
 numberOf InputLength = 14
 numberOf BufferLength = 15
 numberOf State = 16
+numberOf HoleCount = 17
 
 -- The place of a reason: the rule, the hole's index (live: the expected tick), the expected tick, the reply's index, else 0.
 abbrev pub placeOf : Refusal → ℕ
@@ -41,6 +42,7 @@ placeOf VerdictLength = 0
 placeOf InputLength = 0
 placeOf BufferLength = 0
 placeOf State = 0
+placeOf HoleCount = 0
 
 -- What a call answers, in the paper's numbers: a value, or the number and the place of a refusal.
 pub data Answer (A : Type 0) : Type 0 where

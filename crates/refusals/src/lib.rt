@@ -1,4 +1,4 @@
-// Why a call refuses, and paper 01's number and place of each reason ('Refusal numbers').
+// Why a call refuses, and the papers' number and place of each reason (paper 01, 'Refusal numbers'; 17 is paper 02's, item 1).
 ghost use mathlib.Core.Path.{_≡_};
 ghost use Rattle.refusals.specs.Refusals.{numberOf, placeOf};
 
@@ -19,6 +19,7 @@ pub enum Refusal {
     InputLength,
     BufferLength,
     State,
+    HoleCount,
 }
 
 pub fn number(r: Refusal) -> u8
@@ -41,6 +42,7 @@ pub fn number(r: Refusal) -> u8
         Refusal::InputLength => 14,
         Refusal::BufferLength => 15,
         Refusal::State => 16,
+        Refusal::HoleCount => 17,
     }
 }
 
@@ -64,5 +66,6 @@ pub fn place(r: Refusal) -> u32
         Refusal::InputLength => 0,
         Refusal::BufferLength => 0,
         Refusal::State => 0,
+        Refusal::HoleCount => 0,
     }
 }

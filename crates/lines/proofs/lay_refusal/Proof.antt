@@ -34,11 +34,11 @@ put-number-requires-2 c κs =
     let short = number-short (now (start .args .line)) 0 refusedWord _ (first .put-number .ensures) (start .pre) in
     (short .0, omega (arith, short .1))
 
-slice-aggregate-put-text : tie.Need-slice-aggregate-put-text
-slice-aggregate-put-text c = search needs
+slice-aggregate-put-bytes : tie.Need-slice-aggregate-put-bytes
+slice-aggregate-put-bytes c = search needs
 
-put-text-requires : tie.Need-put-text-requires
-put-text-requires c κs = search needs
+put-bytes-requires : tie.Need-put-bytes-requires
+put-bytes-requires c κs = search needs
 
 add-result : tie.Need-add-result
 add-result c =
@@ -57,7 +57,7 @@ returns c =
     let second = third .before .before .before .before .before in
     let first = second .before .before .before .before .before .before in
     let start = first .before .before .before .before .before in
-    refusal-put (now (start .args .line)) _ _ _ _ (start .pre) (first .before .number .ensures) (second .before .place .ensures) (first .put-number .ensures) (second .put-number2 .ensures) (third .put-text .ensures)
+    refusal-put (now (start .args .line)) _ _ _ _ (start .pre) (first .before .number .ensures) (second .before .place .ensures) (first .put-number .ensures) (second .put-number2 .ensures) (third .put-bytes .ensures)
 
 pub lay-refusal-spec : {M : Type 1} → statement M
 lay-refusal-spec =
@@ -71,8 +71,8 @@ lay-refusal-spec =
     place-requires
     cast-put-number-2
     put-number-requires-2
-    slice-aggregate-put-text
-    put-text-requires
+    slice-aggregate-put-bytes
+    put-bytes-requires
     add-result
     same-length
     returns)

@@ -22,13 +22,13 @@ array-share-prefix-line c =
     let laid = c .before .before .before .lay-refusal in
     refusal-read _ _ _ refl (laid .ensures) .0
 
-slice-aggregate-put-text : tie.Need-slice-aggregate-put-text
-slice-aggregate-put-text c =
+slice-aggregate-put-bytes : tie.Need-slice-aggregate-put-bytes
+slice-aggregate-put-bytes c =
     let laid = c .before .before .before .before .lay-refusal in
     sym (length-take-le _ _ (refusal-read _ _ _ refl (laid .ensures) .0))
 
-put-text-requires : tie.Need-put-text-requires
-put-text-requires c κs = search needs
+put-bytes-requires : tie.Need-put-bytes-requires
+put-bytes-requires c κs = search needs
 
 same-length : tie.Need-same-length
 same-length c = search needs
@@ -36,7 +36,7 @@ same-length c = search needs
 returns-2 : tie.Need-returns-2
 returns-2 c =
     let laid = c .before .before .before .before .before .before .before in
-    line-put _ _ (laid .lay-refusal .ensures .0) (search needs) (refusal-read _ _ _ refl (laid .lay-refusal .ensures) .1) (c .before .before .put-text .ensures)
+    line-put _ _ (laid .lay-refusal .ensures .0) (search needs) (refusal-read _ _ _ refl (laid .lay-refusal .ensures) .1) (c .before .before .put-bytes .ensures)
 
 pub put-refusal-spec : {M : Type 1} → statement M
 put-refusal-spec =
@@ -46,7 +46,7 @@ put-refusal-spec =
     lay-refusal-requires
     returns
     array-share-prefix-line
-    slice-aggregate-put-text
-    put-text-requires
+    slice-aggregate-put-bytes
+    put-bytes-requires
     same-length
     returns-2)

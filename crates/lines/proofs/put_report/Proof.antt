@@ -8,11 +8,11 @@ use Rattle.lines.proofs.put_report.Tie as tie
 hex-line-requires : tie.Need-hex-line-requires
 hex-line-requires c κs = search needs
 
-slice-aggregate-put-text : tie.Need-slice-aggregate-put-text
-slice-aggregate-put-text c = search needs
+slice-aggregate-put-bytes : tie.Need-slice-aggregate-put-bytes
+slice-aggregate-put-bytes c = search needs
 
-put-text-requires : tie.Need-put-text-requires
-put-text-requires c κs = search needs
+put-bytes-requires : tie.Need-put-bytes-requires
+put-bytes-requires c κs = search needs
 
 same-length : tie.Need-same-length
 same-length c = search needs
@@ -21,9 +21,9 @@ returns : tie.Need-returns
 returns c =
     let text = c .before .before .before .before .before in
     let start = text .before .before in
-    c .before .before .put-text .ensures ∙ ap (putAt (now (start .args .buffer)) (start .args .at)) (text .hex-line .ensures)
+    c .before .before .put-bytes .ensures ∙ ap (putAt (now (start .args .buffer)) (start .args .at)) (text .hex-line .ensures)
 
 pub put-report-spec : {M : Type 1} → statement M
 put-report-spec =
     tie.close
-    (tie.spec hex-line-requires slice-aggregate-put-text put-text-requires same-length returns)
+    (tie.spec hex-line-requires slice-aggregate-put-bytes put-bytes-requires same-length returns)

@@ -2,24 +2,25 @@ use native.Mathlib.Omega.{arith}
 use Prim.Native.Nat.{_-_}
 use lib.ListN.{length}
 use borrow.Author.Needs.{needs}
-use Rattle.lines.proofs.Texts.{Copying, text-not, copying-start, copying-next, copying-end}
-use Rattle.lines.proofs.put_text.Statement.{statement}
-use Rattle.lines.proofs.put_text.Tie as tie
+use Rattle.bytes_le.proofs.Puts.{put-none}
+use Rattle.bytes_le.proofs.Copying.{Copying, copying-start, copying-next, copying-end}
+use Rattle.bytes_le.proofs.put_bytes.Statement.{statement}
+use Rattle.bytes_le.proofs.put_bytes.Tie as tie
 
 abbrev Inv-loop : tie.InvT-loop
-Inv-loop buffer₀ at text i₀ buffer i = Copying buffer₀ at text buffer i
+Inv-loop buffer₀ at bytes i₀ buffer i = Copying buffer₀ at bytes buffer i
 
 abbrev μ-loop : tie.MeasureT-loop
-μ-loop buffer₀ at text i₀ buffer i = length text - i
+μ-loop buffer₀ at bytes i₀ buffer i = length bytes - i
 
 returns : tie.Need-returns Inv-loop μ-loop
-returns c = text-not _ _ _ (omega arith)
+returns c = put-none _ _ _ (omega arith)
 
 sub-if2 : tie.Need-sub-if2 Inv-loop μ-loop
 sub-if2 c = omega arith
 
 returns-2 : tie.Need-returns-2 Inv-loop μ-loop
-returns-2 c = text-not _ _ _ (omega arith)
+returns-2 c = put-none _ _ _ (omega arith)
 
 loop-holds : tie.Need-loop-holds Inv-loop μ-loop
 loop-holds c = copying-start _ _ _ (omega arith)
@@ -48,8 +49,8 @@ same-length c = c .before .loop .inv .long
 returns-3 : tie.Need-returns-3 Inv-loop μ-loop
 returns-3 c = copying-end _ _ _ (c .before .loop .inv) (c .loop-test .left)
 
-pub put-text-spec : {M : Type 1} → statement M
-put-text-spec =
+pub put-bytes-spec : {M : Type 1} → statement M
+put-bytes-spec =
     tie.close
     (tie.spec
     Inv-loop

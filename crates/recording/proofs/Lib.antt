@@ -1,0 +1,4 @@
+pub mod SamplePuts
+pub mod GoodRecords
+pub mod OfferSteps
+pub mod Turns
