@@ -39,11 +39,7 @@ pub fn signed16(v: u16) -> i16
 pub fn bits16(v: i16) -> u16
     ensures { λ r. ⌜ r ≡ ofZ w16 v ⌝ }
 {
-    if v < 0 {
-        65535 - (!v as u16)
-    } else {
-        v as u16
-    }
+    if v < 0 { 65535 - (!v as u16) } else { v as u16 }
 }
 
 fn signed32(v: u32) -> i32

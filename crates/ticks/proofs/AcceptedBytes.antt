@@ -41,7 +41,7 @@ checks s w h =
     let j : record { layout = l; settings = settingsOf (rulesPart s); ticks = t } ≡ w = cc in
     rw (← j) (record { walked = b; rules = d; records = f; settings = refl }))))
 
-head-idle : (s : List ℕ) {u : Unit {0}} → headAnswer 1 s ≡ answer u → u16At s 2 ≤ 32766
+pub head-idle : (s : List ℕ) {u : Unit {0}} → headAnswer 1 s ≡ answer u → u16At s 2 ≤ 32766
 unfolding headAnswer
 head-idle s h =
     let a = unless (ltb (length s) 4) 1 0 _ h in
@@ -54,7 +54,7 @@ idle-small : (s : List ℕ) (l : Layout) → walkAnswer s ≡ answer l → l .id
 idle-small s l h = let p = parts-are s l h in rw (p .idle) (head-idle s (p .begun .head))
 
 -- The rules of an accepted rule set.
-rules-sound : (n idle : ℕ) (bytes : List ℕ) → L.ruleSetAnswer n bytes ≡ answer tt → idle ≤ 32766 → SoundConfig (record { cells = n; idle = idle; settings = settingsOf bytes })
+pub rules-sound : (n idle : ℕ) (bytes : List ℕ) → L.ruleSetAnswer n bytes ≡ answer tt → idle ≤ 32766 → SoundConfig (record { cells = n; idle = idle; settings = settingsOf bytes })
 unfolding L.ruleSetAnswer
 rules-sound n idle bytes h k i l =
     let a = where-true (leb 3 n && leb n 12) 3 0 _ h in

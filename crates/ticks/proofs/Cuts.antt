@@ -80,7 +80,7 @@ no-hole-next [] e n = refl
 no-hole-next (h ∷ hs) e n = ne-eqb (h .first) e (λ z. omega arith)
 
 -- From a place where no hole has begun, the records left cover the ticks up to m.
-covers : {m : ℕ} (k : ℕ) (hs : List Hole) (xs : List Stamped) (e : ℕ) → Place m hs xs e → Ascending e hs → k ≡ length hs + length xs → coverAnswer k hs xs e ≡ answer m
+pub covers : {m : ℕ} (k : ℕ) (hs : List Hole) (xs : List Stamped) (e : ℕ) → Place m hs xs e → Ascending e hs → k ≡ length hs + length xs → coverAnswer k hs xs e ≡ answer m
 unfolding coverAnswer
 covers zero [] [] e done o q = refl
 covers (suc k) [] [] e done o q = absurd (omega arith)

@@ -13,14 +13,18 @@ use Rattle.trace.specs.Writing.{traceBytes, Start}
 use Rattle.trace.proofs.Layouts.{PartsAre, parts-are}
 use Rattle.trace.proofs.Outcomes as outcomes
 use Rattle.trace.proofs.WrittenSections.{SameStart, same-start, layoutWritten, starts, written-reads}
-use Rattle.fillings.specs.Fillings.{Config}
+use Rattle.fillings.specs.Fillings.{Config, SoundConfig}
 use Rattle.ticks.specs.Traces.{traceOf, Accepted}
 use Rattle.ticks.specs.promises.Promises.{writtenTrace, WrittenTrace}
-use Rattle.ticks.proofs.AcceptedBytes.{Checks}
+use Rattle.ticks.proofs.AcceptedBytes.{Checks, head-idle, rules-sound}
 
 -- What the three checks of the records answer of accepted records.
 records-accepted : (s : List ℕ) (w : Parsed) → Accepted (traceOf s w) → recordsAnswer s (w .layout) ≡ answer (w .ticks)
 records-accepted s w ok = rw (ok .holes, ok .covered, ok .replies)
+
+-- First bytes that pass have sound rules.
+pub start-sound : {n : ℕ} {start : List ℕ} → Start n start → SoundConfig (record { cells = n; idle = u16At start 2; settings = settingsOf (rulesPart start) })
+start-sound {n} {start} ok = rules-sound n (u16At start 2) (rulesPart start) (ok .rules) (head-idle start (ok .head))
 
 pub written-trace : WrittenTrace
 written-trace n start A B C ticks ok fitsA fitsB fitsC good =

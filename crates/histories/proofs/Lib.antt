@@ -1,0 +1,10 @@
+pub mod EveryElement
+pub mod PutParts
+pub mod LongerPlaces
+pub mod CountedOnce
+pub mod StoredHoles
+pub mod UnseenTicks
+pub mod StoredSamples
+pub mod Outcomes
+pub mod Standings
+pub mod OwnsUp
