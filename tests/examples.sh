@@ -56,7 +56,7 @@ for text in examples/*.txt examples/refused/*.txt; do
     check "$text" capture "$text"
 done
 captures=(examples/*.txt)
-check "captures: all five" [ "${#captures[@]}" -eq 5 ]
+check "captures: all six" [ "${#captures[@]}" -eq 6 ]
 numbers=$(cat examples/refused/*.answer | awk '{ print $2 }' | sort -n | tr '\n' ' ')
 check "refusals: 1 to 11 and 14" [ "$numbers" = "1 2 3 4 5 6 7 8 9 10 11 14 " ]
 

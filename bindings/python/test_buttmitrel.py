@@ -65,7 +65,7 @@ class RefusalCase(unittest.TestCase):
 class Judging(RefusalCase):
     def test_every_field_is_that_of_the_answer(self):
         answers = sorted(EXAMPLES.glob("*.answer"))
-        self.assertEqual(len(answers), 5)
+        self.assertEqual(len(answers), 6)
         for path in answers:
             word, digits, verdicts = path.read_text().split("\n")[:3]
             report = buttmitrel.judge(trace_of(path.stem))
@@ -201,6 +201,8 @@ class Feeding(RefusalCase):
             if feed.expected_tick in holes:
                 feed.hole(holes[feed.expected_tick])
             feed.sample(*row[:3], row[3:3 + cells], row[3 + cells:])
+        if feed.expected_tick in holes:
+            feed.hole(holes[feed.expected_tick])
         return feed
 
     def test_beginning(self):
