@@ -9,10 +9,10 @@
  * A refusal is its number times 2^32 plus its place (paper 01, 'Refusal numbers'; docs/FORMAT.md has each with its cause and cure); a
  * refused call leaves every buffer as it was. A value is below 2^32.
  *
- * A wrong length means the same in every function. A list that holds a state (rules, words and totals of a running feed) and is not as
- * long as said here is no state: 16, before anything else. Where paper 01 gives a length a refusal of its own, that is it: 12 for a
- * report, 13 for verdicts, 6 for the rules of a beginning, 15 for a reply and for volts and temps. Any other list (bounds, and the
- * words and totals that a beginning fills) has 15, after the paper's refusals.
+ * A wrong length means the same in every function. A list that holds a state (rules, words and totals of a running feed, the numbers
+ * of a running recorder) and is not as long as said here is no state: 16, before anything else. Where paper 01 gives a length a refusal
+ * of its own, that is it: 12 for a report, 13 for verdicts, 6 for the rules of a beginning, 15 for a reply and for volts and temps. Any
+ * other list (bounds, and what a beginning or a start fills) has 15, after the papers' refusals.
  */
 #ifndef BUTTMITREL_H
 #define BUTTMITREL_H
@@ -80,6 +80,43 @@ uint64_t buttmitrel_live_hole(uint8_t cells, uint16_t idle, const uint8_t *rules
 /* Writes the report of a state, as the judge's but with no first ticks (FFFFFFFFh): 0, or 16, then 12 where report_len is not 187. */
 uint64_t buttmitrel_live_report(uint8_t cells, uint16_t idle, const uint8_t *rules, size_t rules_len, const uint64_t *words,
                                 size_t words_len, const uint64_t *totals, size_t totals_len, uint8_t *report, size_t report_len);
+
+/* The recorder: the writing side, for a capture card. It is offered samples by tick and keeps them until they are drained; every tick
+ * that it does not keep becomes part of a hole. The library keeps no state between calls; the caller does, and lends it to each call:
+ *   recorder             BUTTMITREL_RECORDER x uint32_t: the cell count; the number of samples that the store has room for; the next
+ *                        tick; how many holes there are; how many samples are stored and not drained; how many were ever stored.
+ *   store                BUTTMITREL_STORE(cells, number) bytes or more, that is 8,192 + number x (8 + 4 x cells): first 1,024 places
+ *                        of 8 bytes for holes, recorder[3] of them in use, then as many places of 8 + 4 x cells bytes for samples as
+ *                        the number says. The oldest stored sample is in place (recorder[5] - recorder[4]) % recorder[1], the next
+ *                        in the one behind it, and behind the last place is the first. Holes and samples have the bytes of a trace.
+ *                        Bytes past that length stay as they were. Before the first offer the store may hold anything.
+ * Between calls the caller may read both, and nobody may write them: then every tick below recorder[2] is in exactly one sample,
+ * drained or stored, or in exactly one hole. Once all is drained, a head of these cells, rules, the holes, no replies and the drained
+ * samples in order make a trace, which the judge accepts where head and rules pass.
+ * A call may be handed any of these whatever: what is no state (cells not 3 to 12, a number that the store has no room for, more than
+ * 1,024 holes, more samples stored than the number says) is refusal 16, and so is another length of recorder. */
+#define BUTTMITREL_RECORDER 6
+#define BUTTMITREL_HOLES 8192
+#define BUTTMITREL_SAMPLE(cells) (8 + 4 * (size_t)(cells))
+#define BUTTMITREL_STORE(cells, number) (BUTTMITREL_HOLES + (number) * BUTTMITREL_SAMPLE(cells))
+
+/* Starts a recorder with room for so many samples, which may be none: 0, with next tick 0 and nothing kept, or refusal 3; then 15
+ * where recorder_len is not 6. */
+uint64_t buttmitrel_recorder_start(uint8_t cells, uint32_t number, uint32_t *recorder, size_t recorder_len);
+
+/* Offers the sample of the next tick or of a later one: 0 where it is stored, 1 where its tick became part of a hole. It is stored
+ * exactly while fewer samples than the number says are stored and not drained, and fewer than 65,535 were ever stored. Ticks that were
+ * skipped become part of a hole too, of the same one where the sample is not stored; a hole that touches the last one is joined to it.
+ * Or 16, then 15 unless volts and temps have a number for each cell, then 9 at the next tick for a tick before it and for FFFFFFFFh,
+ * then 17 where a new hole is needed and there are 1,024; the same tick can then be offered again. Millivolts, mA, tenths of a degree. */
+uint64_t buttmitrel_recorder_offer(uint32_t *recorder, size_t recorder_len, uint8_t *store, size_t store_len, uint32_t tick,
+                                   int16_t current, int16_t board, const uint16_t *volts, size_t volts_len, const int16_t *temps,
+                                   size_t temps_len);
+
+/* Drains the oldest stored samples to the front of buffer, as many whole ones as it holds: how many, or 16. What is behind them in
+ * buffer stays as it was. Holes are not drained. */
+uint64_t buttmitrel_recorder_drain(uint32_t *recorder, size_t recorder_len, const uint8_t *store, size_t store_len, uint8_t *buffer,
+                                   size_t buffer_len);
 
 #ifdef __cplusplus
 }

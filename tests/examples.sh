@@ -56,7 +56,7 @@ for text in examples/*.txt examples/refused/*.txt; do
     check "$text" capture "$text"
 done
 captures=(examples/*.txt)
-check "captures: all five" [ "${#captures[@]}" -eq 5 ]
+check "captures: all six" [ "${#captures[@]}" -eq 6 ]
 numbers=$(cat examples/refused/*.answer | awk '{ print $2 }' | sort -n | tr '\n' ' ')
 check "refusals: 1 to 11 and 14" [ "$numbers" = "1 2 3 4 5 6 7 8 9 10 11 14 " ]
 
@@ -95,6 +95,7 @@ check "other first tick" says 0 "first possible at tick 13 (0:00:13), first cert
 check "other verdict" says 0 "Voltage 12509 mV: differs from the sum of the sample's cells, 4159 + 4161 + 4189 mV" explain_as 's/^44/54/'
 check "too few verdicts" says 1 "no answer to this trace" explain_as 's/^44/4/'
 check "no answer" says 1 "no answer to this trace" explain_as d
+check "a recorder's refusal" says 0 "What to do: drain the recorder and offer the same tick again" explain_as '1s/.*/refused 17 at 0/; 1q'
 
 seed=${SEED:-$RANDOM}
 echo "examples: seed $seed"

@@ -1,10 +1,14 @@
-# `format.py PROGRAM DOCUMENT`: judges the examples of docs/FORMAT.md with the program and compares the document's tables with the code.
-# From the repository's root.
+# `format.py PROGRAM DOCUMENT`: judges the examples of docs/FORMAT.md with the program, carries out the calls of its recorder with the
+# library that BUTTMITREL_LIBRARY names, and compares the document's tables with the code. From the repository's root.
+import ctypes
 import itertools
 import re
 import struct
 import subprocess
 import sys
+
+sys.path.insert(0, "bindings/python")
+import buttmitrel
 
 PROGRAM, DOCUMENT = sys.argv[1:3]
 TYPE_BYTES = {"u8": 1, "u16": 2, "u32": 4, "u64": 8, "i16": 2, "i32": 4, "": 1}
@@ -18,6 +22,7 @@ LENGTHS = {
     "report": "187",
     "rule of the report": "10",
     "bytes on the bus": "6",
+    "store": "8192 + m × (8 + 4n)",
 }
 checks = 0
 
@@ -43,22 +48,23 @@ def tables(text):
     return found
 
 
-# The bytes of the blocks 'offset: bytes # what they say'.
+# The bytes of the blocks 'offset: bytes # what they say', by the offset at which each begins, in the document's order.
 def blocks(text):
     found = []
     for block in re.findall(r"(?:^ +\d+: .*\n)+", text, re.M):
-        whole = b""
-        for offset, digits in re.findall(r"^ +(\d+): ([0-9A-F ]+)#", block, re.M):
-            check(int(offset), len(whole), f"the offset of {digits.strip()}")
+        lines = re.findall(r"^ +(\d+): ([0-9A-F ]+)#", block, re.M)
+        begin, whole = int(lines[0][0]), b""
+        for offset, digits in lines:
+            check(int(offset), begin + len(whole), f"the offset of {digits.strip()}")
             whole += bytes.fromhex(digits)
-        found.append(whole)
+        found.append((begin, whole))
     return found
 
 
-# A number as the document writes it, with n cells and other names for numbers.
-def number(text, n, **names):
+# A number as the document writes it, with n cells, room for m samples, and other names for numbers.
+def number(text, n, m=5, **names):
     text = text.replace(",", "").replace("−", "-").replace("×", "*")
-    return eval(re.sub(r"(\d)n", r"\1 * n", text), {"n": n, **names})
+    return eval(re.sub(r"(\d)n", r"\1 * n", text), {"n": n, "m": m, **names})
 
 
 def judge(trace):
@@ -235,10 +241,56 @@ def changes(found, trace):
     check({int(answer.split()[1]) for _, answer, _ in rows}, {*range(1, 12), 14}, "the refusals that have an example")
 
 
+# A call of the recorder as the document writes it: its answer, and what it drains.
+def recorder_call(call, record, store, sample):
+    library, lent = buttmitrel._library(), (record, len(record), store, len(store))
+    verb, numbers = call.split()[0], [int(digits) for digits in re.findall(r"\d+", call)]
+    if verb == "start":
+        return library.buttmitrel_recorder_start(*numbers, record, len(record)), b""
+    if verb == "offer":
+        current, board, *cells = struct.unpack("<4xhh6h", sample)
+        volts, temps = (ctypes.c_uint16 * 3)(*cells[:3]), (ctypes.c_int16 * 3)(*cells[3:])
+        return library.buttmitrel_recorder_offer(*lent, *numbers, current, board, volts, 3, temps, 3), b""
+    buffer = (ctypes.c_uint8 * numbers[0])()
+    count = library.buttmitrel_recorder_drain(*lent, buffer, len(buffer))
+    return count, bytes(buffer)[: count * len(sample)]
+
+
+# Carries out the recorder's calls, and answers what comes behind the rules in the trace that is then written.
+def recorder_calls(rows, sample):
+    record, store, drained = (ctypes.c_uint32 * 6)(), (ctypes.c_uint8 * number("8192 + m × (8 + 4n)", 3, 2))(), b""
+    for call, expected, after, why in rows:
+        answer, samples = recorder_call(call, record, store, sample)
+        drained += samples
+        text = f"refused {answer >> 32} at {answer % (1 << 32)}" if answer >> 32 else str(answer)
+        check((text, ", ".join(map(str, record))), (expected, after), f"{call}, {why}")
+        for place in re.findall(r"in place (\d)", why):
+            at = 8192 + int(place) * len(sample)
+            check(bytes(store[at : at + len(sample)]), struct.pack("<I", record[2] - 1) + sample[4:], f"{call}, {why}")
+        for hole in re.findall(r"hole (?:is )?(\d) to (\d)", why):
+            last = 8 * (record[3] - 1)
+            check(bytes(store[last : last + 8]), struct.pack("<II", *map(int, hole)), f"{call}, {why}")
+    holes = bytes(store[: 8 * record[3]])
+    return struct.pack("<H", record[3]) + holes + struct.pack("<HH", 0, record[5]) + drained
+
+
+def recorder(text, found, trace, begin, rest):
+    rows = found[("call", "answer", "recorder after it", "why")]
+    check({call.split()[0] for call, *_ in rows}, {"start", "offer", "drain"}, "the recorder's calls that have an example")
+    check((begin, recorder_calls(rows, trace[210:230]).hex()), (166, rest.hex()), "the trace of the recorder")
+    said = re.search(r"is accepted: (\d+) ticks, (\d+) of them unseen;.* possible from tick (\d+) on and held at no tick", text)
+    ticks, unseen, possible = map(int, said.groups())
+    answer = judge(trace[:begin] + rest).splitlines()
+    report = bytes.fromhex(answer[1])
+    numbers = (*struct.unpack_from("<II", report, 2), *struct.unpack_from("<II", report, 179))
+    check((answer[0], *numbers), ("accepted", possible, 0xFFFFFFFF, unseen, ticks), "the answer to the recorder's trace")
+
+
 def main():
     text = read(DOCUMENT)
     found = tables(text)
-    trace, report = blocks(text)
+    recorded, (trace_begin, trace), (report_begin, report) = blocks(text)
+    check((trace_begin, report_begin), (0, 0), "where the example's trace and report begin")
     offsets(found)
     refusal_numbers(found)
     rules(found)
@@ -248,6 +300,7 @@ def main():
     replies(found, trace)
     codes(text, trace)
     changes(found, trace)
+    recorder(text, found, trace, *recorded)
     print(f"format: {checks} checks of {DOCUMENT}")
 
 

@@ -44,7 +44,7 @@ complains() { # TEXT COMMAND...: status 2, nothing written, and one line on stan
 }
 
 # Each verb.
-for name in clean_charge e_bike_trip hidden_over_voltage latched_fuse overnight_bench; do
+for name in clean_charge e_bike_trip hidden_over_voltage latched_fuse overnight_bench recorder; do
     gives 0 $name.answer "$door" judge $name.trace
     gives 0 "$root/examples/$name.explain" "$door" explain $name.trace
     gives 0 $name.trace "$door" assemble "$root/examples/$name.txt"

@@ -1,5 +1,5 @@
 #!/usr/bin/env bash
-# The install into a folder: the C example compiles by what pkg-config says and writes what it writes in the repository, also after the
+# The install into a folder: the C examples compile by what pkg-config says and write what they write in the repository, also after the
 # tree has moved; the installed command answers with no toolchain in its PATH and from another folder; the libraries have the functions
 # of the header.
 set -u
@@ -35,7 +35,7 @@ names=$(grep -ralF "$root" "$temporary/first")
 mv "$temporary/first" "$temporary/moved"
 prefix=$temporary/moved
 
-# The C example, against the shared library by pkg-config's words and against the static one.
+# The C examples, against the shared library by pkg-config's words, and the first against the static one.
 export PKG_CONFIG_PATH=$prefix/lib/pkgconfig
 cc -std=c99 -Wall -Wextra -Werror -o "$out/shared" examples/c/judge.c $(pkg-config --cflags --libs buttmitrel) || exit 1
 cc -std=c99 -Wall -Wextra -Werror -o "$out/static" -I "$prefix/include" examples/c/judge.c "$prefix/lib/libbuttmitrel.a" || exit 1
@@ -45,6 +45,8 @@ for program in shared static; do
     "$out/$program" examples/hidden_over_voltage.trace | diff "$out/judged" - || bad "the C example, $program, judges otherwise"
     "$out/$program" | diff "$out/fed" - || bad "the C example, $program, feeds otherwise"
 done
+cc -std=c99 -Wall -Wextra -Werror -o "$out/recorder" examples/c/recorder.c $(pkg-config --cflags --libs buttmitrel) || exit 1
+"$out/recorder" 2>/dev/null | cmp - examples/recorder.trace || bad "the recorder in C writes something else"
 ldd "$out/shared" | grep -qF "$prefix/lib" || bad "the C example runs with a shared library of another place"
 [ "$(pkg-config --modversion buttmitrel)" = "$(cat VERSION)" ] || bad "pkg-config's version is not that of VERSION"
 
@@ -54,7 +56,7 @@ for library in '-D libbuttmitrel.so' '-g libbuttmitrel.a'; do
     nm --defined-only ${library% *} "$prefix/lib/${library#* }" | awk 'NF == 3 { print $3 }' | sort | diff "$out/declared" - ||
         bad "${library#* } has not the functions of the header"
 done
-[ "$(wc -l <"$out/declared")" -ge 9 ] || bad "the header declares too few functions"
+[ "$(wc -l <"$out/declared")" -ge 12 ] || bad "the header declares too few functions"
 
 # The installed command with /usr/bin alone in its PATH.
 installed() { # WORD...
@@ -92,5 +94,5 @@ for verb in judge explain records feed assemble disassemble version help; do
 done
 [ "$(head -n 1 "$prefix/man/man1/buttmitrel.1")" = '.TH BUTTMITREL 1' ] || bad "there is no manual page"
 
-[ "$failed" -eq 0 ] && echo "install: the C example and every verb answer from an installed tree that was moved"
+[ "$failed" -eq 0 ] && echo "install: the C examples and every verb answer from an installed tree that was moved"
 exit "$failed"

@@ -1,8 +1,9 @@
 """The judge of a battery bus analyzer from Python: one file over the shared library libbuttmitrel.so, with no packages.
 
-judge(trace) answers a Report; LiveFeed takes samples and holes one by one; seal and check are for replies of the bus. What the library
-refuses raises Refused. Numbers are in the trace's units: mV, mA, 0.1 degrees Celsius, mA seconds; a tick is a second.
-include/buttmitrel.h says what each call promises, docs/FORMAT.md what traces, reports and refusals are.
+judge(trace) answers a Report; LiveFeed takes samples and holes one by one; Recorder keeps samples, and a hole for every second that it
+could not keep, for a trace; seal and check are for replies of the bus. What the library refuses raises Refused. Numbers are in the
+trace's units: mV, mA, 0.1 degrees Celsius, mA seconds; a tick is a second. include/buttmitrel.h says what each call promises,
+docs/FORMAT.md what traces, reports and refusals are.
 """
 import ctypes
 import ctypes.util
@@ -16,8 +17,8 @@ from ctypes import POINTER, c_char_p, c_int16, c_int64, c_size_t, c_uint8, c_uin
 from typing import Any, Dict, Iterable, List, Mapping, NamedTuple, Optional, Sequence, Tuple, Union
 
 __all__ = [
-    "Check", "Flag", "LiveFeed", "LiveReport", "LiveRule", "NetCharge", "Outputs", "RULE_NAMES", "Refused", "Report", "Rule",
-    "RuleReport", "Verdict", "check", "judge", "net_charge", "reply_count", "rule_bytes", "seal",
+    "Check", "Flag", "LiveFeed", "LiveReport", "LiveRule", "NetCharge", "Offered", "Outputs", "RULE_NAMES", "Recorder", "Refused",
+    "Report", "Rule", "RuleReport", "Verdict", "check", "judge", "net_charge", "reply_count", "rule_bytes", "seal",
 ]
 
 # The short name of each rule, and the manual's.
@@ -50,14 +51,15 @@ _MEANINGS = {
     6: "the rules are not 16 of 10 bytes each",
     7: "a rule that is on is outside its limits",
     8: "a hole is reversed, not after the hole before it, or ends at tick 4294967295",
-    9: "the expected tick is covered by no record or by two, or there is no tick left",
+    9: "a tick is covered by no record or by two, or there is no tick left",
     10: "a reply is earlier than the reply before it, or after the last tick",
     11: "bytes are left over after the last section",
     12: "the report's buffer is not 187 bytes",
     13: "the verdicts' buffer is not as long as there are replies",
     14: "the program was given more than 65536 bytes",
     15: "a list is not as long as the call asks for",
-    16: "what was lent is no state of a live feed",
+    16: "what was lent is no state of a live feed or of a recorder",
+    17: "a new hole is needed, and the recorder has 1024 already",
 }
 
 # The report: for each rule alert, status and two first ticks; the outputs; the totals.
@@ -67,6 +69,11 @@ _OUTPUTS = struct.Struct("<BBB")
 _TOTALS = struct.Struct("<QQII")
 _REPORT_SIZE = 16 * _FLAGS.size + _OUTPUTS.size + _TOTALS.size
 _NO_TICK = 0xFFFFFFFF
+
+# The recorder's numbers, and the room for holes at the front of its store.
+_RECORD_LENGTH = 6
+_HOLES_SIZE = 8192
+_HOLE = struct.Struct("<II")
 
 Bytes = Union[bytes, bytearray, memoryview]
 
@@ -96,6 +103,13 @@ class Check(enum.IntEnum):
     WHOLE = 0
     WRONG_ADDRESS = 1
     WRONG_PEC = 2
+
+
+class Offered(enum.IntEnum):
+    """What became of a sample that a recorder was offered."""
+
+    STORED = 0
+    IN_HOLE = 1
 
 
 class Refused(Exception):
@@ -179,6 +193,7 @@ _BYTES = (c_char_p, c_size_t)
 _U8 = (POINTER(c_uint8), c_size_t)
 _FEED = (c_uint8, c_uint16, *_BYTES, POINTER(c_uint64), c_size_t, POINTER(c_uint64), c_size_t)
 _READINGS = (c_uint32, c_int16, c_int16, POINTER(c_uint16), c_size_t, POINTER(c_int16), c_size_t)
+_RECORD = (POINTER(c_uint32), c_size_t)
 _ARGUMENTS: Dict[str, Tuple[Any, ...]] = {
     "buttmitrel_reply_count": _BYTES,
     "buttmitrel_judge": (*_BYTES, *_U8, *_U8),
@@ -189,6 +204,9 @@ _ARGUMENTS: Dict[str, Tuple[Any, ...]] = {
     "buttmitrel_live_sample": (*_FEED, *_READINGS),
     "buttmitrel_live_hole": (*_FEED, c_uint32),
     "buttmitrel_live_report": (*_FEED, *_U8),
+    "buttmitrel_recorder_start": (c_uint8, c_uint32, *_RECORD),
+    "buttmitrel_recorder_offer": (*_RECORD, *_U8, *_READINGS),
+    "buttmitrel_recorder_drain": (*_RECORD, *_U8, *_U8),
 }
 
 
@@ -353,6 +371,13 @@ def check(reply: Bytes) -> Check:
     return Check(_call("buttmitrel_check", data, len(data)))
 
 
+def _readings(tick: int, current: int, board: int, volts: Iterable[int], temps: Iterable[int]) -> Tuple[Any, ...]:
+    """A sample as the calls take it."""
+    mv = _array(c_uint16, (_u16("a voltage", volt) for volt in volts))
+    tenths = _array(c_int16, (_i16("a temperature", temp) for temp in temps))
+    return (_u32("tick", tick), _i16("current", current), _i16("board", board), mv, len(mv), tenths, len(tenths))
+
+
 class LiveFeed:
     """Takes samples and holes one by one as an analyzer runs, each from the expected tick on. A feed is for one thread at a time."""
 
@@ -386,10 +411,7 @@ class LiveFeed:
 
     def sample(self, tick: int, current: int, board: int, volts: Iterable[int], temps: Iterable[int]) -> None:
         """Takes the sample of the expected tick: current in mA, board temperature, the cells' voltages and temperatures."""
-        mv = _array(c_uint16, (_u16("a voltage", volt) for volt in volts))
-        tenths = _array(c_int16, (_i16("a temperature", temp) for temp in temps))
-        readings = (_u32("tick", tick), _i16("current", current), _i16("board", board))
-        self._feed("buttmitrel_live_sample", *readings, mv, len(mv), tenths, len(tenths))
+        self._feed("buttmitrel_live_sample", *_readings(tick, current, board, volts, temps))
 
     def hole(self, last: int) -> None:
         """Takes a hole from the expected tick up to and with its last tick."""
@@ -420,3 +442,88 @@ class LiveFeed:
         """The states that the rule of this number can have: above 0 it alerts, at its time its status is active."""
         first = 5 * _whole("rule", rule, 0, 15)
         return [state for state in range(320) if self._words[first + state // 64] >> state % 64 & 1]
+
+
+class Recorder:
+    """Keeps samples until they are drained, and a hole for every tick that it could not keep. A recorder is for one thread at a time.
+
+    Every tick below `ticks` is in exactly one sample, drained or stored, or in exactly one hole.
+    """
+
+    def __init__(self, cells: int, number: int) -> None:
+        """Starts a recorder of so many cells with room for so many samples."""
+        room = _u32("number", number)
+        self._record = (c_uint32 * _RECORD_LENGTH)()
+        _call("buttmitrel_recorder_start", _u8("cells", cells), room, self._record, len(self._record))
+        self._store = (c_uint8 * (_HOLES_SIZE + room * self.sample_size))()
+
+    @classmethod
+    def resume(cls, record: Iterable[int], store: Bytes) -> "Recorder":
+        """The recorder that had this record and this store, or refusal 16 where no recorder has them."""
+        recorder = cls.__new__(cls)
+        data = _bytes("store", store)
+        recorder._record = _array(c_uint32, (_u32("a number of the record", number) for number in record))
+        recorder._store = (c_uint8 * len(data)).from_buffer_copy(data)
+        recorder._drain(0)
+        return recorder
+
+    def __reduce__(self) -> Tuple[Any, ...]:
+        """A copy, or a recorder in another process, goes on by itself."""
+        return Recorder.resume, (self.record, self.store)
+
+    def _lent(self) -> Tuple[Any, ...]:
+        return self._record, len(self._record), self._store, len(self._store)
+
+    def _drain(self, size: int) -> bytes:
+        buffer = (c_uint8 * size)()
+        _call("buttmitrel_recorder_drain", *self._lent(), buffer, size)
+        return bytes(buffer)
+
+    def offer(self, tick: int, current: int, board: int, volts: Iterable[int], temps: Iterable[int]) -> Offered:
+        """Offers the sample of the next tick or of a later one: current in mA, board temperature, the cells' voltages and temperatures."""
+        return Offered(_call("buttmitrel_recorder_offer", *self._lent(), *_readings(tick, current, board, volts, temps)))
+
+    def drain(self, most: Optional[int] = None) -> bytes:
+        """The oldest samples, at most so many, or all, as bytes of a trace: `sample_size` each. They are no longer stored."""
+        count = self.stored if most is None else min(self.stored, _u32("most", most))
+        return self._drain(count * self.sample_size)
+
+    def trace(self, idle: int, rules: Rules, samples: Bytes) -> bytes:
+        """A trace of the idle current in mA, the rules (see rule_bytes), the holes, no replies, and all samples as they were drained."""
+        cells, _, _, hole_count, _, stored = self._record
+        data, listed = _bytes("samples", samples), rule_bytes(rules)
+        if len(data) != stored * self.sample_size:
+            raise ValueError(f"samples are {len(data)} bytes: drain all, and give the {stored * self.sample_size} bytes drained, in order")
+        head = struct.pack("<BBHH", 1, cells, _u16("idle", idle), len(listed) // 10)
+        holes = bytes(memoryview(self._store)[:_HOLE.size * hole_count])
+        return b"".join((head, listed, struct.pack("<H", hole_count), holes, struct.pack("<HH", 0, stored), data))
+
+    @property
+    def sample_size(self) -> int:
+        """How many bytes a sample has."""
+        return 8 + 4 * self._record[0]
+
+    @property
+    def ticks(self) -> int:
+        """How many ticks are recorded, and so the next tick."""
+        return self._record[2]
+
+    @property
+    def stored(self) -> int:
+        """How many samples are stored and not drained."""
+        return self._record[4]
+
+    @property
+    def holes(self) -> List[Tuple[int, int]]:
+        """The first and the last tick of each hole."""
+        return [_HOLE.unpack_from(self._store, _HOLE.size * index) for index in range(self._record[3])]
+
+    @property
+    def record(self) -> Tuple[int, ...]:
+        """Cells, room, next tick, holes, samples stored and not drained, samples ever stored, for resume."""
+        return tuple(self._record)
+
+    @property
+    def store(self) -> bytes:
+        """The holes, from byte 8192 on the samples, for resume."""
+        return bytes(self._store)

@@ -1,7 +1,8 @@
-"""The Python binding against the examples' answers, the story of the live feed, and wrong arguments: `python3 test_buttmitrel.py`."""
+"""The Python binding against the examples' answers, the stories of feed and recorder, wrong arguments: `python3 test_buttmitrel.py`."""
 import concurrent.futures
 import contextlib
 import copy
+import ctypes
 import dataclasses
 import io
 import os
@@ -16,7 +17,7 @@ import tempfile
 import unittest
 
 import buttmitrel
-from buttmitrel import Check, Flag, LiveFeed, Refused, Rule, Verdict
+from buttmitrel import Check, Flag, LiveFeed, Offered, Recorder, Refused, Rule, Verdict
 
 HERE = pathlib.Path(__file__).resolve().parent
 ROOT = HERE.parent.parent
@@ -65,7 +66,7 @@ class RefusalCase(unittest.TestCase):
 class Judging(RefusalCase):
     def test_every_field_is_that_of_the_answer(self):
         answers = sorted(EXAMPLES.glob("*.answer"))
-        self.assertEqual(len(answers), 5)
+        self.assertEqual(len(answers), 6)
         for path in answers:
             word, digits, verdicts = path.read_text().split("\n")[:3]
             report = buttmitrel.judge(trace_of(path.stem))
@@ -201,6 +202,8 @@ class Feeding(RefusalCase):
             if feed.expected_tick in holes:
                 feed.hole(holes[feed.expected_tick])
             feed.sample(*row[:3], row[3:3 + cells], row[3 + cells:])
+        if feed.expected_tick in holes:
+            feed.hole(holes[feed.expected_tick])
         return feed
 
     def test_beginning(self):
@@ -270,6 +273,141 @@ class Feeding(RefusalCase):
             LiveFeed.resume(3, 100, OVER_VOLTAGE, words, (-1, 0, 0, 6))
 
 
+def offer(recorder, tick, cells=3):
+    """Offers the tick as the bus of examples/c/recorder.c shows it."""
+    highest = 4250 if 11 <= tick <= 23 else 4150
+    return recorder.offer(tick, 1500, 300, [highest, 4140, 4130, *9 * [4000]][:cells], cells * [250])
+
+
+def all_holes():
+    """A recorder with 1,024 holes of one tick, the even ones, and the last of the odd ones stored in its only place."""
+    recorder = Recorder(3, 1)
+    for tick in range(1, 2048, 2):
+        recorder.drain()
+        offer(recorder, tick)
+    return recorder
+
+
+def kept(recorder):
+    return recorder.record, recorder.store
+
+
+class Recording(RefusalCase):
+    def test_the_card(self):
+        """What examples/README.md says of each tick."""
+        recorder, samples, no_room = Recorder(cells=3, number=6), b"", []
+        for tick in range(30):
+            if not 20 <= tick <= 22 and offer(recorder, tick) is Offered.IN_HOLE:
+                no_room.append(tick)
+            if tick % 5 == 4:
+                samples += recorder.drain(3)
+        self.assertEqual(no_room, [9, 13, 14, 18, 19, 29])
+        self.assertEqual(recorder.holes, [(9, 9), (13, 14), (18, 22), (29, 29)])
+        self.assertEqual((recorder.ticks, recorder.stored, len(samples)), (30, 3, 18 * recorder.sample_size))
+        with self.assertRaisesRegex(ValueError, "samples are 360 bytes: drain all, and give the 420 bytes drained, in order"):
+            recorder.trace(100, OVER_VOLTAGE, samples)
+        samples += recorder.drain(most=9)
+        self.assertEqual((recorder.drain(), recorder.record), (b"", (3, 6, 30, 4, 0, 21)))
+        trace = recorder.trace(idle=100, rules=OVER_VOLTAGE, samples=samples)
+        self.assertEqual(trace, trace_of("recorder"))
+        report = buttmitrel.judge(trace)
+        self.assertEqual((report.rules[0].first_possible_tick, report.rules[0].first_held_tick), (13, 17))
+        self.assertEqual((report.ticks, report.unseen_ticks), (30, 9))
+
+    def test_what_a_trace_is_made_of(self):
+        recorder = Recorder(3, 0)
+        for number, arguments in ((4, (32767, {})), (6, (0, 15 * [Rule(0, 0, 0)])), (7, (0, {"COV": Rule(1, 2, 3)}))):
+            self.refuses((number, 0), buttmitrel.judge, recorder.trace(*arguments, b""))
+        self.assertEqual(buttmitrel.judge(recorder.trace(0, {}, b"")).ticks, 0)
+        with self.assertRaisesRegex(ValueError, "idle is 65536: give a number from 0 to 65535"):
+            recorder.trace(65536, {}, b"")
+        with self.assertRaisesRegex(TypeError, "samples is a list: give bytes"):
+            recorder.trace(0, {}, [])
+
+    def test_every_number_of_cells(self):
+        for cells in range(3, 13):
+            recorder = Recorder(cells, 2)
+            self.assertEqual(len(recorder.store), 8192 + 2 * (8 + 4 * cells))
+            answers = [offer(recorder, tick, cells) for tick in (1, 2, 4)]
+            self.assertEqual(answers, [Offered.STORED, Offered.STORED, Offered.IN_HOLE])
+            rows = list(struct.iter_unpack(f"<Ihh{cells}H{cells}h", recorder.drain()))
+            volts = ([4150, 4140, 4130] + 9 * [4000])[:cells]
+            self.assertEqual(rows, [(tick, 1500, 300, *volts, *cells * [250]) for tick in (1, 2)])
+            self.assertEqual(recorder.holes, [(0, 0), (3, 4)])
+
+    def test_starting(self):
+        for cells in (2, 13):
+            self.refuses((3, 0), Recorder, cells, 1)
+        for arguments, text in (((256, 1), "cells is 256"), ((3, -1), "number is -1"), ((3, 4294967296), "number is 4294967296")):
+            with self.assertRaisesRegex(ValueError, f"{text}: give a number from 0 to"):
+                Recorder(*arguments)
+
+    def test_wrong_offers(self):
+        recorder = all_holes()
+        before = kept(recorder)
+        self.refuses((15, 0), recorder.offer, 5, 0, 0, [4000, 4000], 3 * [250])
+        self.refuses((15, 0), recorder.offer, 5, 0, 0, 3 * [4000], 4 * [250])
+        self.refuses((9, 2048), offer, recorder, 2047)
+        self.refuses((9, 2048), offer, recorder, 4294967295)
+        self.refuses((17, 0), offer, recorder, 2048)
+        self.refuses((17, 0), offer, recorder, 4294967294)
+        for wrong in (-1, 4294967296):
+            with self.assertRaisesRegex(ValueError, "tick is .*: give a number from 0 to 4294967295"):
+                offer(recorder, wrong)
+            with self.assertRaisesRegex(ValueError, "most is .*: give a number from 0 to 4294967295"):
+                recorder.drain(wrong)
+        with self.assertRaisesRegex(ValueError, "a voltage is 65536: give a number from 0 to 65535"):
+            recorder.offer(2048, 0, 0, [65536, 0, 0], 3 * [250])
+        self.assertEqual(kept(recorder), before)
+
+    def test_what_is_refused_first(self):
+        short = (ctypes.c_uint32 * 5)(3, 0, 0, 0, 0)
+        self.refuses((3, 0), buttmitrel._call, "buttmitrel_recorder_start", 2, 0, short, 5)
+        self.refuses((15, 0), buttmitrel._call, "buttmitrel_recorder_start", 3, 0, short, 5)
+        recorder = all_holes()
+        for forged in ((ctypes.c_uint32 * 6)(*recorder.record[:4], 2, 0), short):
+            recorder._record = forged
+            before = kept(recorder)
+            for tick in (0, 2048):
+                self.refuses((16, 0), recorder.offer, tick, 0, 0, [], [])
+            self.refuses((16, 0), recorder.drain, 1)
+            self.assertEqual(kept(recorder), before)
+
+    def test_1024_holes(self):
+        recorder = all_holes()
+        self.refuses((17, 0), offer, recorder, 2048)
+        recorder.drain()
+        self.refuses((17, 0), offer, recorder, 2049)
+        self.assertIs(offer(recorder, 2048), Offered.STORED)
+        self.assertEqual((len(recorder.holes), recorder.holes[-1], recorder.ticks), (1024, (2046, 2046), 2049))
+
+    def test_no_room_at_all(self):
+        recorder = Recorder(3, 0)
+        for tick in (7, 4294967294):
+            self.assertIs(offer(recorder, tick), Offered.IN_HOLE)
+            self.assertEqual(recorder.holes, [(0, tick)])
+        self.refuses((9, 4294967295), offer, recorder, 4294967295)
+        self.assertEqual(recorder.drain(), b"")
+
+    def test_resume(self):
+        recorder = all_holes()
+        for other in (copy.copy(recorder), copy.deepcopy(recorder), pickle.loads(pickle.dumps(recorder))):
+            before = kept(recorder)
+            self.assertEqual(kept(other), before)
+            self.assertEqual(len(other.drain()), 20)
+            self.assertIs(offer(other, 2048), Offered.STORED)
+            self.assertEqual(kept(recorder), before)
+        record, store = kept(recorder)
+        for index, wrong in ((0, 4), (1, 2), (1, 4294967295), (3, 1025), (4, 2)):
+            self.refuses((16, 0), Recorder.resume, [*record[:index], wrong, *record[index + 1:]], store)
+        for wrong in ((record[:5], store), (record, store[1:]), ([], b""), ([2, 0, 0, 0, 0, 0], store), ([13, 0, 0, 0, 0, 0], store)):
+            self.refuses((16, 0), Recorder.resume, *wrong)
+        longer = Recorder.resume(record, store + b"rest")
+        longer.drain()
+        offer(longer, 2048)
+        self.assertEqual(longer.store[len(store):], b"rest")
+
+
 class Loading(unittest.TestCase):
     def found(self, folder, **environment):
         """What a new Python that has this folder's buttmitrel.py says of an empty trace."""
@@ -299,7 +437,7 @@ class Page(unittest.TestCase):
     def test_the_page_says_what_is_printed(self):
         page = (HERE / "README.md").read_text("utf-8")
         blocks = re.findall(r"```python\n(.*?)```\n+```text\n(.*?)```", page, re.DOTALL)
-        self.assertEqual(len(blocks), 2)
+        self.assertEqual(len(blocks), 3)
         before = os.getcwd()
         os.chdir(ROOT)
         self.addCleanup(os.chdir, before)

@@ -29,6 +29,7 @@ fn to_do(number: u8) -> &'static str {
         10 => "give the replies in the order of their ticks, none after the last tick",
         11 => "correct the count of the samples, or remove the bytes after the last one",
         14 => "cut the capture into shorter ones, or call the library, which takes longer traces",
+        17 => "drain the recorder and offer the same tick again; if that is refused too, write its trace and start another",
         _ => "give explain what the program wrote of this trace",
     }
 }

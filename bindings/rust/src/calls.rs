@@ -1,6 +1,7 @@
 // The functions of include/buttmitrel.h over slices. Each call hands over a slice's own pointer and length, so it reads and writes
 // within them; the pointer of an empty slice is not null; a slice lent by &mut overlaps no other.
 use crate::live::LiveFeed;
+use crate::recorder::Recorder;
 use crate::refusal::{value, Refused};
 
 mod c {
@@ -20,6 +21,11 @@ mod c {
             totals: *mut u64, totals_len: usize, last: u32) -> u64;
         pub fn buttmitrel_live_report(cells: u8, idle: u16, rules: *const u8, rules_len: usize, words: *const u64, words_len: usize,
             totals: *const u64, totals_len: usize, report: *mut u8, report_len: usize) -> u64;
+        pub fn buttmitrel_recorder_start(cells: u8, number: u32, recorder: *mut u32, recorder_len: usize) -> u64;
+        pub fn buttmitrel_recorder_offer(recorder: *mut u32, recorder_len: usize, store: *mut u8, store_len: usize, tick: u32,
+            current: i16, board: i16, volts: *const u16, volts_len: usize, temps: *const i16, temps_len: usize) -> u64;
+        pub fn buttmitrel_recorder_drain(recorder: *mut u32, recorder_len: usize, store: *const u8, store_len: usize,
+            buffer: *mut u8, buffer_len: usize) -> u64;
     }
 }
 
@@ -93,4 +99,29 @@ pub fn live_report(cells: u8, idle: u16, rules: &[u8], words: &[u64], totals: &[
         )
     };
     value(answer).map(drop)
+}
+
+pub fn recorder_start(cells: u8, number: u32, record: &mut [u32]) -> Result<(), Refused> {
+    // SAFETY: the pointer and the length are the slice's.
+    value(unsafe { c::buttmitrel_recorder_start(cells, number, record.as_mut_ptr(), record.len()) }).map(drop)
+}
+
+pub fn recorder_offer(r: &mut Recorder, tick: u32, current: i16, board: i16, volts: &[u16], temps: &[i16]) -> Result<u32, Refused> {
+    let (record, store) = (&mut r.record, &mut r.store);
+    // SAFETY: each pointer goes with the length of its slice or array, and the two that are written are borrowed alone.
+    value(unsafe {
+        c::buttmitrel_recorder_offer(
+            record.as_mut_ptr(), record.len(), store.as_mut_ptr(), store.len(), tick, current, board, volts.as_ptr(), volts.len(),
+            temps.as_ptr(), temps.len(),
+        )
+    })
+}
+
+pub fn recorder_drain(record: &mut [u32], store: &[u8], buffer: &mut [u8]) -> Result<u32, Refused> {
+    // SAFETY: each pointer goes with the length of its slice, and the two that are written are borrowed alone.
+    value(unsafe {
+        c::buttmitrel_recorder_drain(
+            record.as_mut_ptr(), record.len(), store.as_ptr(), store.len(), buffer.as_mut_ptr(), buffer.len(),
+        )
+    })
 }

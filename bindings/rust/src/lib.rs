@@ -1,8 +1,9 @@
 //! Safe functions over the judge of a battery bus analyzer (`include/buttmitrel.h`).
 //!
 //! A capture of a battery pack's bus has holes: seconds in which nothing was seen. [`judge()`] says of each protection rule whether it
-//! was held, clear or unknown. [`LiveFeed`] says the same while the analyzer runs. `docs/FORMAT.md` of the repository has the trace
-//! and the report byte by byte, the rules and every refusal.
+//! was held, clear or unknown. [`LiveFeed`] says the same while the analyzer runs. [`Recorder`] makes a trace of the samples that a
+//! capture card has room for, with a hole for every other second. `docs/FORMAT.md` of the repository has the trace and the report byte
+//! by byte, the rules and every refusal.
 //!
 //! ```
 //! // Three cells, idle current 0, all sixteen rules off, no hole, no reply, no sample.
@@ -30,6 +31,7 @@ mod judge;
 mod live;
 mod meaning;
 mod pec;
+mod recorder;
 mod refusal;
 mod report;
 mod rules;
@@ -37,6 +39,7 @@ mod rules;
 pub use judge::{judge, judge_into, net_charge, reply_count, NetCharge, Verdict};
 pub use live::{LiveFeed, TOTALS, WORDS};
 pub use pec::{check, seal, Check};
+pub use recorder::{Offered, Recorder, HOLES_BYTES, RECORD};
 pub use refusal::Refused;
 pub use report::{Flag, LiveReport, LiveRule, Outputs, Report, RuleReport, Totals, REPORT_BYTES};
 pub use rules::{rule_bytes, Rule, RULES_BYTES, RULE_SHORT_NAMES};

@@ -109,6 +109,6 @@ impl LiveFeed {
 }
 
 // A list that the library has taken, which has its whole length.
-fn whole<T: Copy, const N: usize>(list: &[T]) -> [T; N] {
+pub(crate) fn whole<T: Copy, const N: usize>(list: &[T]) -> [T; N] {
     list.try_into().expect("a list of another length is refused")
 }

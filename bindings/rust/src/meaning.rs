@@ -9,14 +9,15 @@ pub fn meaning(number: u32) -> &'static str {
         6 => "the rules are not 16 of 10 bytes each",
         7 => "a rule that is on is outside its limits",
         8 => "a hole is reversed, not after the hole before it, or ends at tick 4294967295",
-        9 => "the expected tick is covered by no record or by two, or there is no tick left",
+        9 => "a tick is covered by no record or by two, or there is no tick left",
         10 => "a reply is earlier than the reply before it, or after the last tick",
         11 => "bytes are left over after the last section",
         12 => "the report's buffer is not 187 bytes",
         13 => "the verdicts' buffer is not as long as there are replies",
         14 => "the program was given more than 65536 bytes",
         15 => "a list is not as long as the call asks for",
-        16 => "what was lent is no state of a live feed",
+        16 => "what was lent is no state of a live feed or of a recorder",
+        17 => "a new hole is needed, and the recorder has 1024 already",
         _ => "a number that is not known here",
     }
 }

@@ -11,9 +11,10 @@ use std::fmt::{Display, Formatter, Result as Written};
 /// ```
 #[derive(Clone, Copy, Debug, PartialEq, Eq, Hash)]
 pub struct Refused {
-    /// 1 to 16.
+    /// 1 to 17.
     pub number: u32,
-    /// For 7 the rule, for 8 the hole's index (live: the expected tick), for 9 the expected tick, for 10 the reply's index, else 0.
+    /// For 7 the rule, for 8 the hole's index (live: the expected tick), for 9 the expected tick (recorder: the next tick), for 10 the
+    /// reply's index, else 0.
     pub place: u32,
 }
 

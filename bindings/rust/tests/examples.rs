@@ -40,7 +40,7 @@ fn digits(report: &Report) -> String {
 #[test]
 fn accepted_captures() {
     let captures = captures("examples");
-    assert_eq!(captures.len(), 5);
+    assert_eq!(captures.len(), 6);
     for (name, trace, answer) in captures {
         let report = judge(&trace).expect(&name);
         let verdicts: String = report.verdicts.iter().map(|&v| (v as u8).to_string()).collect();

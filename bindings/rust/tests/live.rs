@@ -109,12 +109,12 @@ fn replies() {
 #[test]
 fn refusals_in_words() {
     let shown = refused(9, 5).to_string();
-    assert_eq!(shown, "refused 9 at 5: the expected tick is covered by no record or by two, or there is no tick left");
-    let mut meanings: Vec<&str> = (1..=16).map(|number| refused(number, 0).meaning()).collect();
-    meanings.push(refused(17, 0).meaning());
+    assert_eq!(shown, "refused 9 at 5: a tick is covered by no record or by two, or there is no tick left");
+    let mut meanings: Vec<&str> = (1..=17).map(|number| refused(number, 0).meaning()).collect();
+    meanings.push(refused(18, 0).meaning());
     meanings.sort();
     meanings.dedup();
-    assert_eq!(meanings.len(), 17);
+    assert_eq!(meanings.len(), 18);
     let error: Box<dyn std::error::Error + Send + Sync> = refused(9, 5).into();
     assert_eq!(error.to_string(), shown);
 }
