@@ -7,26 +7,26 @@ use Rattle.judge_trace.proofs.text.put_accepted.Tie as tie
 to-digits-requires : tie.Need-to-digits-requires
 to-digits-requires c κs = search needs
 
-slice-aggregate-put-text : tie.Need-slice-aggregate-put-text
-slice-aggregate-put-text c = search needs
+slice-aggregate-put-bytes : tie.Need-slice-aggregate-put-text
+slice-aggregate-put-bytes c = search needs
 
-put-text-requires : tie.Need-put-text-requires
-put-text-requires c κs = search needs
+put-bytes-requires : tie.Need-put-bytes-requires
+put-bytes-requires c κs = search needs
 
 put-report-requires : tie.Need-put-report-requires
 put-report-requires c κs = search needs
 
-put-text-requires-2 : tie.Need-put-text-requires-2
-put-text-requires-2 c κs = search needs
+put-bytes-requires-2 : tie.Need-put-bytes-requires-2
+put-bytes-requires-2 c κs = search needs
 
-add-put-text : tie.Need-add-put-text
-add-put-text c = search needs
+add-put-bytes : tie.Need-add-put-text
+add-put-bytes c = search needs
 
-slice-aggregate-put-text-2 : tie.Need-slice-aggregate-put-text-2
-slice-aggregate-put-text-2 c = search needs
+slice-aggregate-put-bytes-2 : tie.Need-slice-aggregate-put-bytes-2
+slice-aggregate-put-bytes-2 c = search needs
 
-put-text-requires-3 : tie.Need-put-text-requires-3
-put-text-requires-3 c κs = search needs
+put-bytes-requires-3 : tie.Need-put-bytes-requires-3
+put-bytes-requires-3 c κs = search needs
 
 add-result : tie.Need-add-result
 add-result c = search needs
@@ -45,7 +45,7 @@ returns c =
     let first = second .before .before .before .before in
     let digits = c .before .before .before .before .before .before .before .before .before .before .before .before .before .before .before .before .before .before .before .before .before in
     let start = digits .before .before .before .before in
-    accepted-stands (now (start .args .out)) (start .args .report) (now (start .args .verdicts)) (start .pre .0) (search needs) (start .pre .1) (digits .to-digits .ensures) (first .put-text .ensures) (second .put-report .ensures) (third .put-text2 .ensures) (fourth .put-text3 .ensures)
+    accepted-stands (now (start .args .out)) (start .args .report) (now (start .args .verdicts)) (start .pre .0) (search needs) (start .pre .1) (digits .to-digits .ensures) (first .put-bytes .ensures) (second .put-report .ensures) (third .put-bytes2 .ensures) (fourth .put-bytes3 .ensures)
 
 pub put-accepted-spec : {M : Type 1} → statement M
 put-accepted-spec =
@@ -53,12 +53,12 @@ put-accepted-spec =
     (tie.spec
     to-digits-requires
     slice-aggregate-put-text
-    put-text-requires
+    put-bytes-requires
     put-report-requires
-    put-text-requires-2
+    put-bytes-requires-2
     add-put-text
-    slice-aggregate-put-text-2
-    put-text-requires-3
+    slice-aggregate-put-bytes-2
+    put-bytes-requires-3
     add-result
     same-length
     same-length-2
