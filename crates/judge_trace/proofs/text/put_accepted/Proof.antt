@@ -7,7 +7,7 @@ use Rattle.judge_trace.proofs.text.put_accepted.Tie as tie
 to-digits-requires : tie.Need-to-digits-requires
 to-digits-requires c κs = search needs
 
-slice-aggregate-put-bytes : tie.Need-slice-aggregate-put-text
+slice-aggregate-put-bytes : tie.Need-slice-aggregate-put-bytes
 slice-aggregate-put-bytes c = search needs
 
 put-bytes-requires : tie.Need-put-bytes-requires
@@ -19,7 +19,7 @@ put-report-requires c κs = search needs
 put-bytes-requires-2 : tie.Need-put-bytes-requires-2
 put-bytes-requires-2 c κs = search needs
 
-add-put-bytes : tie.Need-add-put-text
+add-put-bytes : tie.Need-add-put-bytes
 add-put-bytes c = search needs
 
 slice-aggregate-put-bytes-2 : tie.Need-slice-aggregate-put-bytes-2
@@ -52,11 +52,11 @@ put-accepted-spec =
     tie.close
     (tie.spec
     to-digits-requires
-    slice-aggregate-put-text
+    slice-aggregate-put-bytes
     put-bytes-requires
     put-report-requires
     put-bytes-requires-2
-    add-put-text
+    add-put-bytes
     slice-aggregate-put-bytes-2
     put-bytes-requires-3
     add-result
