@@ -8,3 +8,4 @@ pub mod StoredSamples
 pub mod Outcomes
 pub mod Standings
 pub mod OwnsUp
+pub mod Case

@@ -1,1 +1,2 @@
 pub mod OwningUp
+pub mod Case
