@@ -16,6 +16,7 @@ struct Mood {
     /// An offer to a full store, and no drain.
     over: u64,
     gap: u64,
+    /// A gap of any size; 0 for none, where a history must not come to the last tick.
     giant: u64,
 }
 
@@ -189,7 +190,7 @@ impl<'a> Fresh<'a> {
 
 /// How many ticks an offer skips.
 fn gap(random: &mut Random, mood: &Mood, next: u64) -> u64 {
-    if random.once_in(mood.giant) {
+    if mood.giant != 0 && random.once_in(mood.giant) {
         return match random.below(2) {
             0 => LAST_TICK.saturating_sub(next + random.below(4)),
             _ => 1 << random.within(3, 31),
@@ -216,7 +217,7 @@ pub fn to_most_holes(random: &mut Random, counts: &mut Counts) -> Result<(), Str
     let number = random.pick(&[1, 1, 2, 3, 10, 40]);
     let mut fresh = Fresh::start(random, number, counts)?;
     let gap = random.pick(&[1, 2, 4]);
-    let mood = Mood { wrong: 60, drain: 10, over: random.pick(&[1, 2]), gap, giant: 1_000_000_000 };
+    let mood = Mood { wrong: 60, drain: 10, over: random.pick(&[1, 2]), gap, giant: 0 };
     while fresh.pair.recorder().holes < MOST_HOLES {
         fresh.step(random, &mood)?;
     }
@@ -232,7 +233,7 @@ pub fn to_most_holes(random: &mut Random, counts: &mut Counts) -> Result<(), Str
 pub fn to_most_ever(random: &mut Random, counts: &mut Counts) -> Result<(), String> {
     let number = random.pick(&[1, 2, 7, 50, 255, 256, 600]);
     let mut fresh = Fresh::start(random, number, counts)?;
-    let mood = Mood { wrong: 1_000, drain: 300, over: 1_000, gap: 1_000, giant: 1_000_000_000 };
+    let mood = Mood { wrong: 1_000, drain: 300, over: 1_000, gap: 1_000, giant: 0 };
     while fresh.pair.recorder().ever < MOST_EVER {
         fresh.step(random, &mood)?;
     }
