@@ -1,6 +1,7 @@
 #!/usr/bin/env bash
-# The second program (tools/second), written from paper 01 alone: its fast form against its slow one, and both against the proved
-# program and the proved library, on traces from a printed seed. SEED, SLOW_TRACES and TRACES choose the traces.
+# The second program (tools/second), written from the papers alone: its fast form against its slow one, and both against the proved
+# program and the proved library, on traces and on a recorder's calls from a printed seed. SEED, SLOW_TRACES, TRACES and HISTORIES
+# choose them.
 set -eu
 program=target/bin/judge_trace
 tool=target/tools/second
@@ -18,3 +19,4 @@ echo "second_program: seed $seed"
 "$tool" slow "$seed" "${SLOW_TRACES:-4000}"
 "$tool" sweep "$program"
 "$tool" compare "$seed" "${TRACES:-10000}" "$program"
+"$tool" recorder "$seed" "${HISTORIES:-5000}"

@@ -2,6 +2,7 @@
 
 use crate::bytes::hex;
 use crate::fast::{end_states, judge_input};
+use crate::recorder_cases;
 use crate::reply::{crc8, seal};
 use crate::report::program_output;
 use crate::trace::{Hole, Rule, Sample, Trace, RULE_OFF};
@@ -84,5 +85,5 @@ pub fn run() -> usize {
         }
     }
     println!("marked cases, whole case and CRC-8 values: {} wrong", wrong);
-    wrong
+    wrong + recorder_cases::run()
 }

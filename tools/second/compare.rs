@@ -75,7 +75,7 @@ fn expected(judged: &Result<Judged, Refusal>, report_len: usize, verdicts_len: u
     let mut report = patterned(report_len);
     let mut verdicts = patterned(verdicts_len);
     let answer = match judged {
-        Err(refusal) => u64::from(refusal.number) << 32 | u64::from(refusal.place),
+        Err(refusal) => refusal.answer(),
         Ok(judged) => {
             report[MARGIN..MARGIN + report_len].copy_from_slice(&judged.report());
             verdicts[MARGIN..MARGIN + verdicts_len].copy_from_slice(&judged.verdicts);
@@ -83,6 +83,14 @@ fn expected(judged: &Result<Judged, Refusal>, report_len: usize, verdicts_len: u
         }
     };
     describe(answer, &report, &verdicts)
+}
+
+/// The library with a report and verdicts of these lengths.
+pub fn with_lengths(trace: &[u8], report_len: usize, verdicts_len: usize) -> Option<Difference> {
+    let ours = expected(&fast::judge(trace, report_len, verdicts_len), report_len, verdicts_len);
+    let (answer, report, verdicts) = call(trace, report_len, verdicts_len);
+    let between = format!("library, report of {}, verdicts of {}", report_len, verdicts_len);
+    compare(&between, ours, describe(answer, &report, &verdicts))
 }
 
 /// The library with right lengths and with each of them wrong.
@@ -98,16 +106,7 @@ pub fn with_library(trace: &[u8]) -> Option<Difference> {
         (0, count),
         (187 + 256, count + 1),
     ];
-    for (report_len, verdicts_len) in lengths {
-        let ours = expected(&fast::judge(trace, report_len, verdicts_len), report_len, verdicts_len);
-        let (answer, report, verdicts) = call(trace, report_len, verdicts_len);
-        let between = format!("library, report of {}, verdicts of {}", report_len, verdicts_len);
-        let difference = compare(&between, ours, describe(answer, &report, &verdicts));
-        if difference.is_some() {
-            return difference;
-        }
-    }
-    None
+    lengths.iter().find_map(|(report_len, verdicts_len)| with_lengths(trace, *report_len, *verdicts_len))
 }
 
 pub fn with_proved(program: &str, input: &[u8]) -> Option<Difference> {

@@ -136,7 +136,7 @@ impl Counts {
     }
 }
 
-fn need(out: &mut Vec<String>, count: u64, name: String) {
+pub fn need(out: &mut Vec<String>, count: u64, name: String) {
     if count == 0 {
         out.push(name);
     }

@@ -1,5 +1,5 @@
-//! An independent second program that judges battery-bus traces, written from paper 01 alone,
-//! and the comparison of it with the proved program and library.
+//! An independent second program that judges battery-bus traces and records them, written from the
+//! papers alone, and the comparison of it with the proved program and library.
 
 mod bytes;
 mod candidates;
@@ -9,9 +9,13 @@ mod compare;
 mod count;
 mod fast;
 mod generate;
+mod histories;
+mod lent;
 mod library;
 mod random;
 mod read;
+mod recorder;
+mod recorder_cases;
 mod reply;
 mod report;
 mod rules;
@@ -31,6 +35,7 @@ const USAGE: &str = "usage: second judge < TRACE
        second slow SEED COUNT
        second sweep PROGRAM
        second compare SEED COUNT PROGRAM
+       second recorder SEED COUNT
        second trace SEED INDEX > TRACE";
 
 fn judge_stdin() {
@@ -59,8 +64,8 @@ fn show(name: &str, input: &[u8], find: &dyn Fn(&[u8]) -> Option<Difference>) ->
     exit(1);
 }
 
-fn finish(name: &str, seed: u64, counts: &Counts, missing: Vec<String>) {
-    println!("{}, seed {}: {}", name, seed, counts.summary());
+fn finish(name: &str, seed: u64, summary: String, missing: Vec<String>) {
+    println!("{}, seed {}: {}", name, seed, summary);
     if !missing.is_empty() {
         println!("never came up: {}", missing.join(", "));
         exit(1);
@@ -82,7 +87,7 @@ fn compare_slow(seed: u64, count: u64) {
             counts.add(&input);
         }
     }
-    finish("fast and slow agree", seed, &counts, counts.missing());
+    finish("fast and slow agree", seed, counts.summary(), counts.missing());
 }
 
 fn compare_proved(seed: u64, count: u64, program: &str) {
@@ -95,7 +100,7 @@ fn compare_proved(seed: u64, count: u64, program: &str) {
         }
         counts.add(&input);
     }
-    finish("second program, program and library agree", seed, &counts, counts.missing_of_all());
+    finish("second program, program and library agree", seed, counts.summary(), counts.missing_of_all());
 }
 
 fn compare_sweep(program: &str) {
@@ -107,6 +112,17 @@ fn compare_sweep(program: &str) {
         }
     }
     println!("second program, program and library agree on the {} traces of the sweep", traces.len());
+}
+
+fn compare_recorder(seed: u64, count: u64) {
+    let mut counts = histories::Counts::default();
+    for index in 0..count {
+        if let Err(difference) = histories::history(seed, index, &mut counts) {
+            println!("history {} of seed {} differs: {}", index, seed, difference);
+            exit(1);
+        }
+    }
+    finish("second program and library agree on the recorder", seed, counts.summary(), counts.missing());
 }
 
 fn number(text: &str) -> u64 {
@@ -125,6 +141,7 @@ fn main() {
         ["slow", seed, count] => compare_slow(number(seed), number(count)),
         ["sweep", program] => compare_sweep(program),
         ["compare", seed, count, program] => compare_proved(number(seed), number(count), program),
+        ["recorder", seed, count] => compare_recorder(number(seed), number(count)),
         ["trace", seed, index] => {
             let input = generate::bytes(&mut Random::for_trace(number(seed), number(index)));
             exit(i32::from(std::io::stdout().write_all(&input).is_err()));

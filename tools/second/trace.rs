@@ -77,7 +77,7 @@ impl Trace {
 }
 
 impl Sample {
-    fn encode(&self, out: &mut Vec<u8>) {
+    pub fn encode(&self, out: &mut Vec<u8>) {
         out.extend_from_slice(&self.tick.to_le_bytes());
         out.extend_from_slice(&self.current.to_le_bytes());
         out.extend_from_slice(&self.board.to_le_bytes());

@@ -15,12 +15,26 @@ use ticks::Size;
 
 fn empty(random: &mut Random, times: Times, most_cells: i64) -> Trace {
     let cells = random.near_ends(3, most_cells) as u8;
+    empty_of(random, times, cells)
+}
+
+fn empty_of(random: &mut Random, times: Times, cells: u8) -> Trace {
     let idle = match random.below(3) {
         0 => random.within(0, 300),
         _ => random.near_ends(0, 32_766),
     } as u16;
     let rules = rules::rules(random, cells, times);
     Trace { version: 1, cells, idle, rules, holes: vec![], replies: vec![], samples: vec![] }
+}
+
+/// A valid head and rules, all of them off now and then, and no records.
+pub fn head(random: &mut Random, cells: u8) -> Trace {
+    let times = random.pick(&[Times::Short, Times::Mixed, Times::Long]);
+    let mut trace = empty_of(random, times, cells);
+    if random.once_in(3) {
+        trace.rules = vec![RULE_OFF; 16];
+    }
+    trace
 }
 
 /// A valid trace small enough for the slow form.
