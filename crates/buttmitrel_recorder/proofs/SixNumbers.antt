@@ -2,21 +2,34 @@
 use Prim.Native.Nat.{ℕ}
 use mathlib.Core.Path.{_≡_, refl, sym, ap, _∙_}
 use mathlib.Core.Bool.{cond}
-use mathlib.Core.List.{List, [], _++_, append-nil}
+use mathlib.Core.List.{List, [], _∷_, _++_, append-nil}
 use native.Mathlib.Omega.{arith}
 use lib.Dec.{eqb}
-use lib.ListN.{length, drop, drop-of-length-le}
+use lib.ListN.{length, set, drop-of-length-le}
 use lib.Seq.{sets, sets-eq}
 use borrow.Author.Tests.{eq-eqb, ne-eqb}
 use Rattle.refusals.specs.Refusals.{Answer, answer, refused, andThen, orKept}
 use Rattle.recording.specs.declared.Recorder.{Recorder}
 use Rattle.recording.specs.Recorder.{startAnswer}
 use Rattle.buttmitrel.specs.Code.{codeOf, valueCode, refusalCode}
-use Rattle.buttmitrel_recorder.specs.Numbers.{numbersOf, startCall, numbersAfterStart}
+use Rattle.buttmitrel_recorder.specs.Numbers.{numbersOf, recorderOf, startCall, numbersAfterStart}
 
 pub six-stored : (six : List ℕ) (r : Recorder) → length six ≡ 6 → sets six 0 (numbersOf r) ≡ numbersOf r
 six-stored six r l =
     sets-eq (numbersOf r) six 0 (omega arith) ∙ ap (λ rest. numbersOf r ++ rest) (drop-of-length-le six {i = 6} (omega arith)) ∙ append-nil (numbersOf r)
+
+-- A call that changes one of them.
+pub one-stored : (six : List ℕ) (r r′ : Recorder) → length six ≡ 6 → r ≡ recorderOf six
+    → r′ ≡ record { cells = r .cells; number = r .number; next = r .next; holes = r .holes; stored = r′ .stored; ever = r .ever } → set six 4 (r′ .stored) ≡ numbersOf r′
+one-stored [] r r′ l e f = absurd (omega arith)
+one-stored (a ∷ []) r r′ l e f = absurd (omega arith)
+one-stored (a ∷ b ∷ []) r r′ l e f = absurd (omega arith)
+one-stored (a ∷ b ∷ c ∷ []) r r′ l e f = absurd (omega arith)
+one-stored (a ∷ b ∷ c ∷ d ∷ []) r r′ l e f = absurd (omega arith)
+one-stored (a ∷ b ∷ c ∷ d ∷ g ∷ []) r r′ l e f = absurd (omega arith)
+one-stored (a ∷ b ∷ c ∷ d ∷ g ∷ h ∷ []) r r′ l e f =
+    ap (λ q. q .cells ∷ q .number ∷ q .next ∷ q .holes ∷ r′ .stored ∷ q .ever ∷ []) (sym e) ∙ sym (ap numbersOf f)
+one-stored (a ∷ b ∷ c ∷ d ∷ g ∷ h ∷ i ∷ s) r r′ l e f = absurd (omega arith)
 
 -- A start.
 module _ (cells number : ℕ) (six : List ℕ) where

@@ -110,7 +110,7 @@ pub extern "C" fn buttmitrel_recorder_drain(
     match answer {
         Drained::Refused(why) => code(why),
         Drained::Samples(count) => {
-            store_numbers(numbers, after);
+            numbers[4] = after.stored;
             count as u64
         }
     }

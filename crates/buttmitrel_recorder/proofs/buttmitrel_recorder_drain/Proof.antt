@@ -1,7 +1,8 @@
 use mathlib.Core.Path.{sym, ap, _∙_}
 use Rattle.recording.specs.Recorder.{answerOfDrained, drained}
+use Rattle.recording.proofs.Turns.{only-stored}
 use Rattle.buttmitrel_recorder.specs.Numbers.{recorderOf}
-use Rattle.buttmitrel_recorder.proofs.SixNumbers.{not-six, call-refused, call-taken}
+use Rattle.buttmitrel_recorder.proofs.SixNumbers.{one-stored, not-six, call-refused, call-taken}
 use borrow.Author.Needs.{needs}
 use Rattle.buttmitrel_recorder.proofs.buttmitrel_recorder_drain.Statement.{statement}
 use Rattle.buttmitrel_recorder.proofs.buttmitrel_recorder_drain.Tie as tie
@@ -31,8 +32,8 @@ code-requires-2 c κs = search needs
 enum-known-answer-2 : tie.Need-enum-known-answer-2
 enum-known-answer-2 c = search needs
 
-store-numbers-requires : tie.Need-store-numbers-requires
-store-numbers-requires c κs = search needs
+slice-write-numbers : tie.Need-slice-write-numbers
+slice-write-numbers c = search needs
 
 cast-result : tie.Need-cast-result
 cast-result c = search needs
@@ -50,9 +51,10 @@ returns-2 c =
     let store = start .args .store .now in
     let buffer = start .args .buffer .now in
     let step = c .before .before .before .before .before .before .before .drain-from in
-    let a = drained (c .before .before .before .before .before .before .before .before .before .load .result) store buffer in
+    let r = c .before .before .before .before .before .before .before .before .before .load .result in
+    let a = drained r store buffer in
     let b = drained (recorderOf six) store buffer in
-    let same = ap (λ r. drained r store buffer) (c .before .before .before .before .before .before .before .before .before .load .ensures) in
+    let same = ap (λ q. drained q store buffer) (c .before .before .before .before .before .before .before .before .before .load .ensures) in
     call-refused (λ after. after .count) (λ after. after .recorder) (λ after. after .buffer) six buffer (c .before .before .before .before .before .before .before .before .before .before .before .if1 .left) a b same
     (sym (ap answerOfDrained (c .before .before .answer .given .1)) ∙ step .ensures .0) (c .code2 .ensures) (step .ensures .1 .1)
 
@@ -64,16 +66,19 @@ same-length-4 c = search needs
 
 returns-3 : tie.Need-returns-3
 returns-3 c =
-    let start = c .before .before .before .before .before .before .before .before .before .before .before .before .before .before .before .before .before .before in
+    let start = c .before .before .before .before .before .before .before .before .before .before .before .before .before .before in
     let six = start .args .numbers .now in
     let store = start .args .store .now in
     let buffer = start .args .buffer .now in
-    let step = c .before .before .before .before .before .before .before .before .before .before .drain-from in
-    let a = drained (c .before .before .before .before .before .before .before .before .before .before .before .before .load .result) store buffer in
+    let step = c .before .before .before .before .before .before .drain-from in
+    let r = c .before .before .before .before .before .before .before .before .load .result in
+    let a = drained r store buffer in
     let b = drained (recorderOf six) store buffer in
-    let same = ap (λ r. drained r store buffer) (c .before .before .before .before .before .before .before .before .before .before .before .before .load .ensures) in
-    call-taken (λ after. after .count) (λ after. after .recorder) (λ after. after .buffer) six buffer (c .before .before .before .before .before .before .before .before .before .before .before .before .before .before .if1 .left) (c .before .before .before .before .before .before .before .before .before .before .before .before .load .result) (c .before .before .before .before .before .answer2 .given .0 .0) a b same
-    (sym (ap answerOfDrained (c .before .before .before .before .before .answer2 .given .1)) ∙ step .ensures .0) (step .ensures .1 .0) (c .before .before .store-numbers .ensures) (step .ensures .1 .1)
+    let same = ap (λ q. drained q store buffer) (c .before .before .before .before .before .before .before .before .load .ensures) in
+    let six-long = c .before .before .before .before .before .before .before .before .before .before .if1 .left in
+    let numbers = one-stored six r (step .result .recorder) six-long (c .before .before .before .before .before .before .before .before .load .ensures) (only-stored r store buffer (step .result .recorder) (step .ensures .1 .0)) in
+    call-taken (λ after. after .count) (λ after. after .recorder) (λ after. after .buffer) six buffer six-long r (c .before .answer2 .given .0 .0) a b same
+    (sym (ap answerOfDrained (c .before .answer2 .given .1)) ∙ step .ensures .0) (step .ensures .1 .0) numbers (step .ensures .1 .1)
 
 pub buttmitrel-recorder-drain-spec : {M : Type 1} → statement M
 buttmitrel-recorder-drain-spec =
@@ -86,7 +91,7 @@ buttmitrel-recorder-drain-spec =
     enum-known-answer
     code-requires-2
     enum-known-answer-2
-    store-numbers-requires
+    slice-write-numbers
     cast-result
     same-length
     same-length-2
