@@ -1,8 +1,12 @@
 // The proved judge beside two plain ones: the same captures, in the same run. Stops if they differ in a byte. Then a sample of the
-// live feed.
+// live feed, and the proved recorder beside a plain one.
 mod captures;
+mod odd_calls;
 #[path = "plain_judge.rs"]
 mod plain_judge;
+mod plain_recorder;
+mod recorder_rows;
+mod recorders;
 mod states_as_bounds;
 #[path = "../trace/bytes.rs"]
 mod trace_bytes;
@@ -184,4 +188,6 @@ fn main() {
     compare("Time a sample at 65,535 samples over that at 1,000", long, short, 1000.0 / 65_535.0);
     compare("Time of the hole of 4,294,967,295 ticks over that of no record", giant, empty, 1.0);
     println!("A live sample of {CELLS} cells with its checks: {}.", text(live_sample()));
+    println!();
+    recorder_rows::rows();
 }
