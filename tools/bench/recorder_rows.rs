@@ -74,60 +74,79 @@ impl Card {
     }
 }
 
-// The least seconds a sample, each recorder in its turn.
-fn least(plan: &Plan, card: &mut Card) -> [f64; 2] {
-    let count = (plan.bursts * plan.burst) as f64;
-    let mut time = |run: fn(&Plan, &mut Card) -> (u64, u64), calls| mean(calls, || run(plan, card).0) / count;
-    let calls = (0.0005 / count / time(run::<Plain>, 1)).clamp(1.0, 10_000.0) as u32;
-    let mut least = [f64::INFINITY; 2];
-    let start = Instant::now();
-    while start.elapsed().as_secs_f64() < 0.15 {
-        for (least, run) in least.iter_mut().zip([run::<Proved>, run::<Plain>]) {
-            *least = least.min(time(run, calls));
-        }
-    }
-    least
+// A row of the table: its cards, how many runs take about a millisecond, and the least seconds a run of each recorder on each card.
+struct Row {
+    name: &'static str,
+    plan: Plan,
+    cards: Vec<Card>,
+    calls: u32,
+    least: [[f64; CARDS]; 2],
 }
 
-// Of each recorder the median of the cards' least times.
-fn measure(plan: &Plan, card: impl Fn() -> Card, drops: bool) -> [f64; 2] {
-    let count = (plan.bursts * plan.burst) as u64;
-    let expected = (if drops { count } else { 0 }, if plan.drains { count } else { 0 });
-    let mut cards: Vec<Card> = (0..CARDS).map(|_| card()).collect();
-    let mut times = [[0.0; CARDS]; 2];
-    for (k, card) in cards.iter_mut().enumerate() {
-        assert!(run::<Both>(plan, card) == expected);
-        [times[0][k], times[1][k]] = least(plan, card);
+impl Row {
+    // Every call of the plan is compared on every card.
+    fn new(name: &'static str, plan: Plan, card: impl Fn() -> Card, drops: bool) -> Row {
+        let count = (plan.bursts * plan.burst) as u64;
+        let expected = (if drops { count } else { 0 }, if plan.drains { count } else { 0 });
+        let mut cards: Vec<Card> = (0..CARDS).map(|_| card()).collect();
+        for card in &mut cards {
+            assert!(run::<Both>(&plan, card) == expected);
+        }
+        let once = mean(1, || run::<Plain>(&plan, &mut cards[0]).0);
+        let calls = (0.001 / once).clamp(1.0, 10_000.0) as u32;
+        Row { name, plan, cards, calls, least: [[f64::INFINITY; CARDS]; 2] }
     }
-    times.map(|mut times| {
-        times.sort_by(f64::total_cmp);
-        times[CARDS / 2]
+
+    // Bursts that are stored, each drained by one call.
+    fn drained(name: &'static str, bursts: usize, burst: usize, skipped: u32) -> Row {
+        Row::new(name, Plan { bursts, burst, skipped, drains: true }, Card::new, false)
+    }
+
+    // A hundred offers to a store that holds so much.
+    fn offered(name: &'static str, stored: usize, holes: usize) -> Row {
+        let plan = Plan { bursts: 1, burst: 100, skipped: 0, drains: false };
+        Row::new(name, plan, || Card::with(stored, holes), stored == NUMBER as usize)
+    }
+
+    // Each card and each recorder in its turn.
+    fn turn(&mut self) {
+        let Row { plan, cards, calls, least, .. } = self;
+        for (k, card) in cards.iter_mut().enumerate() {
+            for (least, run) in least.iter_mut().zip([run::<Proved>, run::<Plain>]) {
+                least[k] = least[k].min(mean(*calls, || run(plan, card).0));
+            }
+        }
+    }
+
+    // Seconds a sample: the median of the cards.
+    fn times(&self) -> [f64; 2] {
+        self.least.map(|mut least| {
+            least.sort_by(f64::total_cmp);
+            least[CARDS / 2] / (self.plan.bursts * self.plan.burst) as f64
+        })
+    }
+}
+
+// Rows that are compared with each other are measured by turns.
+fn measure<const N: usize>(mut rows: [Row; N]) -> [[f64; 2]; N] {
+    let start = Instant::now();
+    while start.elapsed().as_secs_f64() < 2.0 * N as f64 {
+        rows.iter_mut().for_each(Row::turn);
+    }
+    rows.map(|row| {
+        let [proved, plain] = row.times();
+        let (name, ratio, rate) = (row.name, proved / plain, 1e-6 / proved);
+        println!("| {name} | {:.2} ns | {:.2} ns | {ratio:.2} | {rate:.2} million |", proved * 1e9, plain * 1e9);
+        [proved, plain]
     })
 }
 
-fn row(name: &str, [proved, plain]: [f64; 2]) -> [f64; 2] {
-    let rate = 1e-6 / proved;
-    println!("| {name} | {:.2} ns | {:.2} ns | {:.2} | {rate:.2} million |", proved * 1e9, plain * 1e9, proved / plain);
-    [proved, plain]
-}
-
-// Answers the ratio.
-fn drained(name: &str, bursts: usize, burst: usize, skipped: u32) -> f64 {
-    let [proved, plain] = row(name, measure(&Plan { bursts, burst, skipped, drains: true }, Card::new, false));
-    proved / plain
-}
-
-// A hundred offers to a store that holds so much.
-fn offered(name: &str, stored: usize, holes: usize) -> [f64; 2] {
-    let plan = Plan { bursts: 1, burst: 100, skipped: 0, drains: false };
-    row(name, measure(&plan, || Card::with(stored, holes), stored == NUMBER as usize))
+fn largest(numbers: impl Iterator<Item = f64>) -> f64 {
+    numbers.fold(0.0, f64::max)
 }
 
 fn spread(what: &str, times: &[[f64; 2]]) {
-    let [proved, plain] = [0, 1].map(|k| {
-        let of = times.iter().map(|t| t[k]);
-        of.clone().fold(0.0, f64::max) / of.fold(f64::INFINITY, f64::min)
-    });
+    let [proved, plain] = [0, 1].map(|k| largest(times.iter().map(|t| t[k])) * largest(times.iter().map(|t| 1.0 / t[k])));
     println!("{what}: proved {proved:.2}, plain {plain:.2}.");
 }
 
@@ -135,25 +154,26 @@ pub fn rows() {
     odd_calls::compare();
     println!("| recorder, {CELLS} cells, a store for 1,000 samples | proved | plain | ratio | samples a second, proved |");
     println!("|--|--|--|--|--|");
-    let ratios = [
-        drained("stored, and a drain for each sample", 4000, 1, 0),
-        drained("stored, and a drain for 16 samples", 250, 16, 0),
-        drained("stored, and a drain for 256 samples", 16, 256, 0),
-        drained("stored, and a drain for 1,000 samples", 4, 1000, 0),
-        drained("stored, and a drain for 100 samples, after a skipped tick", 40, 100, 1),
-    ];
-    let stored = [
-        offered("stored, no drain: the store is empty", 0, 0),
-        offered("stored, no drain: half full", 450, 0),
-        offered("stored, no drain: nearly full", 900, 0),
-        offered("stored, no drain: 1,000 holes stand", 0, 1000),
-    ];
-    let dropped = [
-        offered("dropped into a growing hole, the first", 1000, 0),
-        offered("dropped into a growing hole after 1,000", 1000, 1000),
-    ];
+    let drained = measure([
+        Row::drained("stored, and a drain for each sample", 4000, 1, 0),
+        Row::drained("stored, and a drain for 16 samples", 250, 16, 0),
+        Row::drained("stored, and a drain for 256 samples", 16, 256, 0),
+        Row::drained("stored, and a drain for 1,000 samples", 4, 1000, 0),
+        Row::drained("stored, and a drain for 100 samples, after a skipped tick", 40, 100, 1),
+    ]);
+    let stored = measure([
+        Row::offered("stored, no drain: the store is empty", 0, 0),
+        Row::offered("stored, no drain: half full", 450, 0),
+        Row::offered("stored, no drain: nearly full", 900, 0),
+        Row::offered("stored, no drain: 1,000 holes stand", 0, 1000),
+    ]);
+    let dropped = measure([
+        Row::offered("dropped into a growing hole, the first", 1000, 0),
+        Row::offered("dropped into a growing hole after 1,000", 1000, 1000),
+    ]);
     println!();
-    println!("A stored sample and its share of the drain, the largest ratio: {:.2}.", ratios.into_iter().fold(0.0, f64::max));
+    let ratio = largest(drained.iter().map(|[proved, plain]| proved / plain));
+    println!("A stored sample and its share of the drain, the largest ratio: {ratio:.2}.");
     spread("Time of an offer that is stored, the largest over the smallest of what the store holds", &stored);
     spread("Time of an offer that is dropped, the same", &dropped);
 }
