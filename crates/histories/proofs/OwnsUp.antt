@@ -37,7 +37,7 @@ use Rattle.histories.proofs.Standings.{Stands, stands-fresh, after-drop
 -- One call.
 module _ (n : ℕ) (s : Standing) (xs : List Stamped) (now : Stands n s xs) where
   offered-next : (tick : ℕ) (x : Sample) → Typed (offer tick x) → Stands n (after s (offer tick x)) (xs ++ storedBy s (offer tick x))
-  offered-next tick x (small, current, board, volts, temps) = go (offered (s .recorder) (s .store) tick x) refl
+  offered-next tick x (current, board, volts, temps) = go (offered (s .recorder) (s .store) tick x) refl
     where
       go : (a : Answer AfterOffer) → offered (s .recorder) (s .store) tick x ≡ a → Stands n (after s (offer tick x)) (xs ++ storedBy s (offer tick x))
       go (refused p q) e = rw (e, append-nil xs) now
@@ -46,7 +46,8 @@ module _ (n : ℕ) (s : Standing) (xs : List Stamped) (now : Stands n s xs) wher
           (λ (good, fits) k room h is.
           let v : length (x .volts) ≡ n = fits .volts ∙ now .cells in
           let t : length (x .temps) ≡ n = fits .temps ∙ now .cells in
-          let carries : Carries n (stamped tick x) = (record { current = current; board = board; cells = v; volts = volts; sensors = t; temps = temps }, small) in
+          let last = fits .last in
+          let carries : Carries n (stamped tick x) = (record { current = current; board = board; cells = v; volts = volts; sensors = t; temps = temps }, omega arith) in
           rw (e, is) (after-store n s xs now tick k x good (fits .passed) (fits .last) carries room h))
           (λ (good, fits) k room h is. rw (e, is, append-nil xs) (after-drop n s xs now tick k good (fits .passed) (fits .last) h))
 
@@ -54,7 +55,9 @@ module _ (n : ℕ) (s : Standing) (xs : List Stamped) (now : Stands n s xs) wher
   drained-next buffer = go (drained (s .recorder) (s .store) buffer) refl
     where
       go : (a : Answer AfterDrain) → drained (s .recorder) (s .store) buffer ≡ a → Stands n (after s (drain buffer)) (xs ++ storedBy s (drain buffer))
-      go (refused p q) e = rw (e, append-nil xs, append-nil (s .drained)) now
+      go (refused p q) e =
+          let none : 0 * sampleWidth (s .recorder .cells) ≡ 0 = omega arith in
+          rw (e, none, append-nil xs, append-nil (s .drained)) now
       go (answer a) e =
           let (good, is) = drain-case (s .recorder) (s .store) buffer a e in
           rw (e, is, append-nil xs) (after-drain n s xs now buffer good)
@@ -127,11 +130,12 @@ module _ (n : ℕ) (s : Standing) (xs : List Stamped) (now : Stands n s xs) (emp
       × (acceptAnswer (recorded start n s) ≡ answer w)
       × (w .ticks ≡ s .recorder .next)
       × (traceOf (recorded start n s) w .holes ≡ holesOf s)
+      × (traceOf (recorded start n s) w .replies ≡ [])
       × (traceOf (recorded start n s) w .samples ≡ xs)
   judged =
       let (w, a, b) = written-trace n start A [] (s .drained) (s .recorder .next) ok (holes-whole (s .store) (s .recorder .holes) (now .covers .few) (now .covers .long)) none (samples-held .whole) (subst Accepted (sym same) good) in
       let e : traceOf (recorded start n s) w ≡ trace = b ∙ same in
-      (w, a, ap (λ t. t .ticks) e, ap (λ t. t .holes) e, ap (λ t. t .samples) e)
+      (w, a, ap (λ t. t .ticks) e, ap (λ t. t .holes) e, ap (λ t. t .replies) e, ap (λ t. t .samples) e)
 
 owns-up : (n : ℕ) (s : Standing) (xs : List Stamped) → Stands n s xs → OwnsUp n s xs
 owns-up n s xs now =

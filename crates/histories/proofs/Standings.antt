@@ -18,7 +18,7 @@ use Rattle.trace.specs.Writing.{eachBytes, sampleBytes}
 use Rattle.trace.proofs.EachBytes.{each-append, each-long}
 use Rattle.trace.proofs.SampleBytes.{Carries, sample-written}
 use Rattle.ticks.specs.inner.Places.{Place, done}
-use Rattle.recording.specs.Recorder.{AfterOffer, AfterDrain, stamped, slotOf, hasRoom, holesWith, storeWith, stored, dropped, offered, oldest, samplesFrom, drainCount, drainedBy, drained}
+use Rattle.recording.specs.Recorder.{AfterOffer, AfterDrain, stamped, slotOf, hasRoom, holesWith, storeWith, stored, dropped, offered, oldest, bytesFrom, drainCount, drainedBy, drained}
 use Rattle.recording.specs.inner.Steps.{Good, Fits}
 use Rattle.recording.specs.declared.Recorder.{Recorder}
 use Rattle.recording.proofs.GoodRecords.{room-facts, slot-within}
@@ -121,13 +121,13 @@ module _ (n : ℕ) (s : Standing) (xs : List Stamped) (now : Stands n s xs) wher
       → Stands n (record {
         recorder = drainedBy r (s .store) buffer (drainCount r buffer) .recorder;
         store = s .store;
-        drained = s .drained ++ take (drainCount r buffer * sampleWidth (r .cells)) (putAt buffer 0 (samplesFrom r (s .store) (drainCount r buffer) (oldest r)));
+        drained = s .drained ++ take (drainCount r buffer * sampleWidth (r .cells)) (putAt buffer 0 (bytesFrom r (s .store) (drainCount r buffer) (oldest r)));
       }) xs
   after-drain buffer good =
       let k : ℕ = drainCount r buffer in
       let i : ℕ = length xs - r .stored in
       let (few, fits) = whole-fit r buffer k refl in
-      let bytes : List ℕ = samplesFrom r (s .store) k (oldest r) in
+      let bytes : List ℕ = bytesFrom r (s .store) k (oldest r) in
       let ys : List Stamped = take k (drop i xs) in
       let is : bytes ≡ eachBytes sampleBytes ys = oldest-kept r (s .store) xs (now .kept) (now .ever) (now .undrained) (now .room) k few in
       let count : length ys ≡ k = length-take-le k (drop i xs) (omega (arith, length-drop i xs, now .ever, now .undrained)) in

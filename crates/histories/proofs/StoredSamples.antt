@@ -13,7 +13,7 @@ use Rattle.lists.proofs.Bools.{by-order, below?}
 use Rattle.bytes_le.specs.Writing.{putAt}
 use Rattle.trace.specs.Records.{Stamped, sampleWidth}
 use Rattle.trace.specs.Writing.{eachBytes, sampleBytes}
-use Rattle.recording.specs.Recorder.{slotOf, samplesFrom, oldest}
+use Rattle.recording.specs.Recorder.{slotOf, bytesFrom, oldest}
 use Rattle.recording.specs.inner.Steps.{Good}
 use Rattle.recording.specs.declared.Recorder.{Recorder}
 use Rattle.recording.proofs.GoodRecords.{slot-within}
@@ -95,8 +95,8 @@ module _ (r : Recorder) where
 
   -- The oldest k of them, one after the other.
   window : (store : List ℕ) (xs : List Stamped) (k i i′ : ℕ) → i + k ≤ length xs → ((t : ℕ) → t < k → take w (drop (slotOf r (i′ + t)) store) ≡ sampleBytes (getD xs (i + t) blank))
-      → samplesFrom r store k i′ ≡ eachBytes sampleBytes (take k (drop i xs))
-  unfolding samplesFrom eachBytes
+      → bytesFrom r store k i′ ≡ eachBytes sampleBytes (take k (drop i xs))
+  unfolding bytesFrom eachBytes
   window store xs zero i i′ l each = refl
   window store xs (suc k) i i′ l each =
       let head : take w (drop (slotOf r i′) store) ≡ sampleBytes (getD xs i blank) =
@@ -108,7 +108,7 @@ module _ (r : Recorder) where
       ap₂ (λ a b. a ++ b) head ih ∙ ap (λ l. eachBytes sampleBytes (take (suc k) l)) (sym (drop-cons xs i blank (omega arith)))
 
   pub oldest-kept : (store : List ℕ) (xs : List Stamped) → Kept store (r .ever) (r .stored) xs → length xs ≡ r .ever → r .stored ≤ r .ever → r .stored ≤ r .number → (k : ℕ) → k ≤ r .stored
-      → samplesFrom r store k (oldest r) ≡ eachBytes sampleBytes (take k (drop (length xs - r .stored) xs))
+      → bytesFrom r store k (oldest r) ≡ eachBytes sampleBytes (take k (drop (length xs - r .stored) xs))
   oldest-kept store xs kept count few room k h =
       window store xs k (length xs - r .stored) (oldest r) (omega arith) (λ t l.
       let j : ℕ = length xs - r .stored + t in

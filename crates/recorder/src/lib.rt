@@ -39,7 +39,7 @@ pub fn drain(recorder: &mut Recorder, store: &[u8], buffer: &mut [u8]) -> Draine
     step.answer
 }
 
-// An offer to a recorder that stands so, and how it stands then: for a caller that keeps the record in another form.
+// `recording::offer`, by lending a local copy of the record to `offer`: for a covered caller, which can not lend one itself.
 pub fn offer_from(
     recorder: Recorder,
     store: &mut [u8],
@@ -61,7 +61,7 @@ pub fn offer_from(
     }
 }
 
-// A drain in the same way.
+// `recording::drain` in the same way.
 pub fn drain_from(recorder: Recorder, store: &[u8], buffer: &mut [u8]) -> DrainStep
     ensures answer { λ r. ⌜ answerOfDrained (r .answer) ≡ drainAnswer (drained recorder (now (store .entry)) (now (buffer .entry))) ⌝ }
     ensures recorder { λ r. ⌜ r .recorder ≡ recorderAfterDrain recorder (drained recorder (now (store .entry)) (now (buffer .entry))) ⌝ }

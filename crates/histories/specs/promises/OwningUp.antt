@@ -11,7 +11,7 @@ use Rattle.trace.specs.Records.{Hole, Stamped, holesFrom}
 use Rattle.trace.specs.Acceptance.{Parsed, acceptAnswer}
 use Rattle.trace.specs.Writing.{eachBytes, sampleBytes, traceBytes, Start}
 use Rattle.ticks.specs.Traces.{traceOf}
-use Rattle.recording.specs.Recorder.{startAnswer, samplesFrom, oldest}
+use Rattle.recording.specs.Recorder.{startAnswer, bytesFrom, oldest}
 use Rattle.recording.specs.declared.Recorder.{Recorder}
 use Rattle.histories.specs.Calls.{Call, Typed, Standing, fresh, afterAll, storedIn}
 
@@ -41,13 +41,14 @@ pub record OwnsUp (n : ℕ) (s : Standing) (xs : List Stamped) : Type 0 where
   -- samples are drained oldest first and as offered; the others are in the store
   pub ever : length xs ≡ s .recorder .ever
   pub drained : s .drained ≡ eachBytes sampleBytes (take (length xs - s .recorder .stored) xs)
-  pub stored : samplesFrom (s .recorder) (s .store) (s .recorder .stored) (oldest (s .recorder)) ≡ eachBytes sampleBytes (drop (length xs - s .recorder .stored) xs)
-  -- once all is drained the judge accepts the trace, with as many ticks as were passed, those holes and those samples
+  pub stored : bytesFrom (s .recorder) (s .store) (s .recorder .stored) (oldest (s .recorder)) ≡ eachBytes sampleBytes (drop (length xs - s .recorder .stored) xs)
+  -- once all is drained the judge accepts the trace, with as many ticks as were passed, those holes, no replies and those samples
   pub accepted : s .recorder .stored ≡ 0 → (start : List ℕ) → Start n start
       → (w : Parsed)
       × (acceptAnswer (recorded start n s) ≡ answer w)
       × (w .ticks ≡ s .recorder .next)
       × (traceOf (recorded start n s) w .holes ≡ holesOf s)
+      × (traceOf (recorded start n s) w .replies ≡ [])
       × (traceOf (recorded start n s) w .samples ≡ xs)
 
 -- Any calls from a fresh start, beside any store.
