@@ -4,7 +4,9 @@
  * Each function answers for any bytes and any lengths; what it answers and what it writes is proved for the Rattle code behind it.
  * Nothing proves the caller: it must pass pointers to as many readable (or writable) elements as the length beside them says, also
  * where the length is 0 (then the pointer may be any that is not null), and no buffer that is written may overlap another one of
- * the same call. The functions keep no state, allocate nothing and may run in several threads at once.
+ * the same call. The functions keep no state, allocate nothing and may run in several threads at once, where no call writes a list that
+ * another one has. So one recorder, and one live feed, takes one call at a time: no offer, in a thread or in an interrupt, while another
+ * call on the same recorder runs.
  *
  * A refusal is its number times 2^32 plus its place (paper 01, 'Refusal numbers'; docs/FORMAT.md has each with its cause and cure); a
  * refused call leaves every buffer as it was. A value is below 2^32.
@@ -87,28 +89,33 @@ uint64_t buttmitrel_live_report(uint8_t cells, uint16_t idle, const uint8_t *rul
  *                        tick; how many holes there are; how many samples are stored and not drained; how many were ever stored.
  *   store                BUTTMITREL_STORE(cells, number) bytes or more, that is 8,192 + number x (8 + 4 x cells): first 1,024 places
  *                        of 8 bytes for holes, recorder[3] of them in use, then as many places of 8 + 4 x cells bytes for samples as
- *                        the number says. The oldest stored sample is in place (recorder[5] - recorder[4]) % recorder[1], the next
- *                        in the one behind it, and behind the last place is the first. Holes and samples have the bytes of a trace.
- *                        Bytes past that length stay as they were. Before the first offer the store may hold anything.
+ *                        the number says. Where a sample is stored, the oldest is in place (recorder[5] - recorder[4]) % recorder[1],
+ *                        the next in the one behind it, and behind the last place is the first. Holes and samples have the bytes of
+ *                        a trace. Bytes past that length stay as they were. Before the first offer the store may hold anything.
  * Between calls the caller may read both, and nobody may write them: then every tick below recorder[2] is in exactly one sample,
- * drained or stored, or in exactly one hole. Once all is drained, a head of these cells, rules, the holes, no replies and the drained
- * samples in order make a trace, which the judge accepts where head and rules pass.
+ * drained or stored, or in exactly one hole. Both may be saved and lent again later, together and of the same moment: a store of another
+ * moment is not noticed, and samples drained since they were saved would be drained twice.
+ * Once all is drained, these bytes are a trace, which the judge accepts where head and rules pass (u16: the low byte first): 1, cells,
+ * u16 idle, u16 16, the 160 bytes of the rules, u16 recorder[3], the first 8 x recorder[3] bytes of store, u16 0, u16 recorder[5], all
+ * that was drained, in order. Once recorder[5] is 65,535 every offer that is not refused answers 1, for good: drain, write the trace,
+ * start another.
  * A call may be handed any of these whatever: what is no state (cells not 3 to 12, a number that the store has no room for, more than
  * 1,024 holes, more samples stored than the number says) is refusal 16, and so is another length of recorder. */
 #define BUTTMITREL_RECORDER 6
-#define BUTTMITREL_HOLES 8192
+#define BUTTMITREL_HOLES 8192 /* bytes: room for 1,024 holes */
 #define BUTTMITREL_SAMPLE(cells) (8 + 4 * (size_t)(cells))
-#define BUTTMITREL_STORE(cells, number) (BUTTMITREL_HOLES + (number) * BUTTMITREL_SAMPLE(cells))
+#define BUTTMITREL_STORE(cells, number) (BUTTMITREL_HOLES + (size_t)(number) * BUTTMITREL_SAMPLE(cells))
 
 /* Starts a recorder with room for so many samples, which may be none: 0, with next tick 0 and nothing kept, or refusal 3; then 15
- * where recorder_len is not 6. */
+ * where recorder_len is not 6. A start on a running recorder forgets what it has stored, and its holes. */
 uint64_t buttmitrel_recorder_start(uint8_t cells, uint32_t number, uint32_t *recorder, size_t recorder_len);
 
 /* Offers the sample of the next tick or of a later one: 0 where it is stored, 1 where its tick became part of a hole. It is stored
  * exactly while fewer samples than the number says are stored and not drained, and fewer than 65,535 were ever stored. Ticks that were
  * skipped become part of a hole too, of the same one where the sample is not stored; a hole that touches the last one is joined to it.
  * Or 16, then 15 unless volts and temps have a number for each cell, then 9 at the next tick for a tick before it and for FFFFFFFFh,
- * then 17 where a new hole is needed and there are 1,024; the same tick can then be offered again. Millivolts, mA, tenths of a degree. */
+ * then 17 where a new hole is needed and there are 1,024. After a 17 the same tick is stored if it is the next one, and a drain has made
+ * room for it; a later one is refused again, and the trace is at its end. Millivolts, mA, tenths of a degree. */
 uint64_t buttmitrel_recorder_offer(uint32_t *recorder, size_t recorder_len, uint8_t *store, size_t store_len, uint32_t tick,
                                    int16_t current, int16_t board, const uint16_t *volts, size_t volts_len, const int16_t *temps,
                                    size_t temps_len);

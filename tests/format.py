@@ -286,6 +286,16 @@ def recorder(text, found, trace, begin, rest):
     check((answer[0], *numbers), ("accepted", possible, 0xFFFFFFFF, unseen, ticks), "the answer to the recorder's trace")
 
 
+# The most samples that the program takes of a trace with no hole.
+def longest(text, trace):
+    said = re.search(r"hole ([\d,]+) samples of (\d+) cells or ([\d,]+) of (\d+)", text).groups()
+    for most, n in (said[:2], said[2:]):
+        for count, expected in ((number(most, 0), "accepted"), (number(most, 0) + 1, "refused 14 at 0")):
+            head = trace[:1] + bytes([int(n)]) + trace[2:166] + struct.pack("<HHH", 0, 0, count)
+            samples = b"".join(struct.pack("<I", tick) + bytes(4 + 4 * int(n)) for tick in range(count))
+            check(judge(head + samples).splitlines()[0], expected, f"{count} samples of {n} cells")
+
+
 def main():
     text = read(DOCUMENT)
     found = tables(text)
@@ -301,6 +311,7 @@ def main():
     codes(text, trace)
     changes(found, trace)
     recorder(text, found, trace, *recorded)
+    longest(text, trace)
     print(f"format: {checks} checks of {DOCUMENT}")
 
 

@@ -14,7 +14,7 @@ import operator
 import os
 import struct
 from ctypes import POINTER, c_char_p, c_int16, c_int64, c_size_t, c_uint8, c_uint16, c_uint32, c_uint64
-from typing import Any, Dict, Iterable, List, Mapping, NamedTuple, Optional, Sequence, Tuple, Union
+from typing import Any, Callable, Dict, Iterable, List, Mapping, NamedTuple, Optional, Sequence, Tuple, Union
 
 __all__ = [
     "Check", "Flag", "LiveFeed", "LiveReport", "LiveRule", "NetCharge", "Offered", "Outputs", "RULE_NAMES", "Recorder", "Refused",
@@ -51,13 +51,13 @@ _MEANINGS = {
     6: "the rules are not 16 of 10 bytes each",
     7: "a rule that is on is outside its limits",
     8: "a hole is reversed, not after the hole before it, or ends at tick 4294967295",
-    9: "a tick is covered by no record or by two, or there is no tick left",
+    9: "a tick is covered by no record or by two, has already passed, or is 4294967295; the place is the tick that is expected",
     10: "a reply is earlier than the reply before it, or after the last tick",
     11: "bytes are left over after the last section",
     12: "the report's buffer is not 187 bytes",
     13: "the verdicts' buffer is not as long as there are replies",
     14: "the program was given more than 65536 bytes",
-    15: "a list is not as long as the call asks for",
+    15: "a list is not as long as the call asks for: give one voltage and one temperature a cell, six bytes a reply",
     16: "what was lent is no state of a live feed or of a recorder",
     17: "a new hole is needed, and the recorder has 1024 already",
 }
@@ -70,10 +70,12 @@ _TOTALS = struct.Struct("<QQII")
 _REPORT_SIZE = 16 * _FLAGS.size + _OUTPUTS.size + _TOTALS.size
 _NO_TICK = 0xFFFFFFFF
 
-# The recorder's numbers, and the room for holes at the front of its store.
+# The recorder's numbers, and the room for holes at the front of its store; the rules and the most samples of a trace.
 _RECORD_LENGTH = 6
 _HOLES_SIZE = 8192
 _HOLE = struct.Struct("<II")
+_RULES_SIZE = 160
+_MOST_SAMPLES = 65535
 
 Bytes = Union[bytes, bytearray, memoryview]
 
@@ -291,9 +293,14 @@ def _bytes(name: str, data: Any) -> bytes:
         raise TypeError(f"{name} is a {type(data).__name__}: give bytes") from None
 
 
-def _array(kind: Any, numbers: Iterable[int]) -> Any:
-    values = list(numbers)
-    return (kind * len(values))(*values)
+def _array(kind: Any, number: Callable[[str, Any], int], name: str, one: str, values: Any) -> Any:
+    """A C array of numbers, which messages call by the list's name, and each by that of one."""
+    try:
+        each = iter(values)
+    except TypeError:
+        raise TypeError(f"{name} is {values!r}: give a list of whole numbers") from None
+    numbers = [number(one, value) for value in each]
+    return (kind * len(numbers))(*numbers)
 
 
 def _one_rule(rule: Any) -> bytes:
@@ -314,7 +321,11 @@ def rule_bytes(rules: Rules) -> bytes:
         if unknown:
             raise ValueError(f"there is no rule {unknown[0]!r}: give one of {', '.join(names)}")
         rules = [rules.get(name, Rule(0, 0, 0)) for name in names]
-    return b"".join(map(_one_rule, rules))
+    try:
+        each = iter(rules)
+    except TypeError:
+        raise TypeError(f"rules is {rules!r}: give 16 Rules, a mapping of short names to Rules, or 160 bytes") from None
+    return b"".join(map(_one_rule, each))
 
 
 def reply_count(trace: Bytes) -> int:
@@ -373,8 +384,8 @@ def check(reply: Bytes) -> Check:
 
 def _readings(tick: int, current: int, board: int, volts: Iterable[int], temps: Iterable[int]) -> Tuple[Any, ...]:
     """A sample as the calls take it."""
-    mv = _array(c_uint16, (_u16("a voltage", volt) for volt in volts))
-    tenths = _array(c_int16, (_i16("a temperature", temp) for temp in temps))
+    mv = _array(c_uint16, _u16, "volts", "a voltage", volts)
+    tenths = _array(c_int16, _i16, "temps", "a temperature", temps)
     return (_u32("tick", tick), _i16("current", current), _i16("board", board), mv, len(mv), tenths, len(tenths))
 
 
@@ -402,8 +413,8 @@ class LiveFeed:
     def _lend(self, cells: int, idle: int, rules: Rules, words: Iterable[int], totals: Iterable[int]) -> None:
         data = rule_bytes(rules)
         self._head = (_u8("cells", cells), _u16("idle", idle), data, len(data))
-        self._words = _array(c_uint64, (_u64("a word", word) for word in words))
-        self._totals = _array(c_uint64, (_u64("a total", total) for total in totals))
+        self._words = _array(c_uint64, _u64, "words", "a word", words)
+        self._totals = _array(c_uint64, _u64, "totals", "a total", totals)
 
     def _feed(self, name: str, *arguments: Any) -> None:
         state = (self._words, len(self._words), self._totals, len(self._totals))
@@ -459,12 +470,16 @@ class Recorder:
 
     @classmethod
     def resume(cls, record: Iterable[int], store: Bytes) -> "Recorder":
-        """The recorder that had this record and this store, or refusal 16 where no recorder has them."""
+        """The recorder that had this record and this store at the same moment, or refusal 16 where no recorder has them."""
         recorder = cls.__new__(cls)
         data = _bytes("store", store)
-        recorder._record = _array(c_uint32, (_u32("a number of the record", number) for number in record))
+        recorder._record = _array(c_uint32, _u32, "record", "a number of the record", record)
         recorder._store = (c_uint8 * len(data)).from_buffer_copy(data)
-        recorder._drain(0)
+        try:
+            recorder._drain(0)
+        except Refused as refused:
+            wanted = "give six numbers, 3 to 12 cells, and a store of at least 8192 + number * (8 + 4 * cells) bytes"
+            raise Refused(refused.number, refused.place, f"{refused.meaning}: {wanted}") from None
         return recorder
 
     def __reduce__(self) -> Tuple[Any, ...]:
@@ -480,7 +495,13 @@ class Recorder:
         return bytes(buffer)
 
     def offer(self, tick: int, current: int, board: int, volts: Iterable[int], temps: Iterable[int]) -> Offered:
-        """Offers the sample of the next tick or of a later one: current in mA, board temperature, the cells' voltages and temperatures."""
+        """Offers the sample of the next tick or of a later one; ticks that are skipped become part of a hole.
+
+        Current in mA, board temperature in 0.1 degrees Celsius; of each cell the voltage in mV and the temperature in 0.1 degrees. Answers
+        Offered.STORED, or Offered.IN_HOLE where there is no room or 65,535 samples were ever stored: the tick is then part of a hole.
+        Refusals: 15, not one voltage and one temperature a cell; 9, a tick that has passed or 4294967295 (place: the next tick); 17, a
+        new hole is needed and there are 1,024: drain and offer the same tick again; if it is refused again, end the trace.
+        """
         return Offered(_call("buttmitrel_recorder_offer", *self._lent(), *_readings(tick, current, board, volts, temps)))
 
     def drain(self, most: Optional[int] = None) -> bytes:
@@ -490,13 +511,17 @@ class Recorder:
 
     def trace(self, idle: int, rules: Rules, samples: Bytes) -> bytes:
         """A trace of the idle current in mA, the rules (see rule_bytes), the holes, no replies, and all samples as they were drained."""
-        cells, _, _, hole_count, _, stored = self._record
+        cells, _, _, hole_count, _, ever = self._record
         data, listed = _bytes("samples", samples), rule_bytes(rules)
-        if len(data) != stored * self.sample_size:
-            raise ValueError(f"samples are {len(data)} bytes: drain all, and give the {stored * self.sample_size} bytes drained, in order")
-        head = struct.pack("<BBHH", 1, cells, _u16("idle", idle), len(listed) // 10)
+        if len(listed) != _RULES_SIZE:
+            raise ValueError(f"rules are {len(listed)} bytes: give 16 rules, {_RULES_SIZE} bytes")
+        if ever > _MOST_SAMPLES:
+            raise ValueError(f"{ever} samples were ever stored, as the record says: a trace has at most {_MOST_SAMPLES}")
+        if len(data) != ever * self.sample_size:
+            raise ValueError(f"samples are {len(data)} bytes: drain all, and give the {ever * self.sample_size} bytes drained, in order")
+        head = struct.pack("<BBHH", 1, cells, _u16("idle", idle), len(RULE_NAMES))
         holes = bytes(memoryview(self._store)[:_HOLE.size * hole_count])
-        return b"".join((head, listed, struct.pack("<H", hole_count), holes, struct.pack("<HH", 0, stored), data))
+        return b"".join((head, listed, struct.pack("<H", hole_count), holes, struct.pack("<HH", 0, ever), data))
 
     @property
     def sample_size(self) -> int:
@@ -512,6 +537,11 @@ class Recorder:
     def stored(self) -> int:
         """How many samples are stored and not drained."""
         return self._record[4]
+
+    @property
+    def ever_stored(self) -> int:
+        """How many samples were ever stored, drained or not. At 65,535 every tick offered becomes part of a hole: end the trace."""
+        return self._record[5]
 
     @property
     def holes(self) -> List[Tuple[int, int]]:

@@ -230,6 +230,9 @@ class Feeding(RefusalCase):
             buttmitrel.rule_bytes([Rule(0, 0, 65536)])
         with self.assertRaisesRegex(TypeError, "give Rule"):
             buttmitrel.rule_bytes([5])
+        for wrong in (None, 5):
+            with self.assertRaisesRegex(TypeError, f"rules is {wrong}: give 16 Rules, a mapping of short names to Rules, or 160 bytes"):
+                LiveFeed(3, 100, wrong)
 
     def test_readings(self):
         feed = story()
@@ -251,6 +254,9 @@ class Feeding(RefusalCase):
                 feed.sample(3, 0, 0, [wrong, 4140, 4130], temps)
         with self.assertRaisesRegex(TypeError, "a voltage is 4.15: give a whole number"):
             feed.sample(3, 0, 0, [4.15, 4140, 4130], temps)
+        for name in ("volts", "temps"):
+            with self.assertRaisesRegex(TypeError, f"{name} is 4150: give a list of whole numbers"):
+                feed.sample(3, 0, 0, **{"volts": volts, "temps": temps, name: 4150})
         with self.assertRaisesRegex(ValueError, "rule is 16: give a number from 0 to 15"):
             feed.possible_states(16)
         self.assertEqual(state(feed), before)
@@ -308,6 +314,7 @@ class Recording(RefusalCase):
             recorder.trace(100, OVER_VOLTAGE, samples)
         samples += recorder.drain(most=9)
         self.assertEqual((recorder.drain(), recorder.record), (b"", (3, 6, 30, 4, 0, 21)))
+        self.assertEqual(recorder.ever_stored, 21)
         trace = recorder.trace(idle=100, rules=OVER_VOLTAGE, samples=samples)
         self.assertEqual(trace, trace_of("recorder"))
         report = buttmitrel.judge(trace)
@@ -316,13 +323,40 @@ class Recording(RefusalCase):
 
     def test_what_a_trace_is_made_of(self):
         recorder = Recorder(3, 0)
-        for number, arguments in ((4, (32767, {})), (6, (0, 15 * [Rule(0, 0, 0)])), (7, (0, {"COV": Rule(1, 2, 3)}))):
+        for number, arguments in ((4, (32767, {})), (7, (0, {"COV": Rule(1, 2, 3)}))):
             self.refuses((number, 0), buttmitrel.judge, recorder.trace(*arguments, b""))
+        for wrong, size in ((15 * [Rule(0, 0, 0)], 150), (bytes(159), 159), (bytes(655360), 655360), ([], 0)):
+            with self.assertRaisesRegex(ValueError, f"rules are {size} bytes: give 16 rules, 160 bytes"):
+                recorder.trace(0, wrong, b"")
         self.assertEqual(buttmitrel.judge(recorder.trace(0, {}, b"")).ticks, 0)
         with self.assertRaisesRegex(ValueError, "idle is 65536: give a number from 0 to 65535"):
             recorder.trace(65536, {}, b"")
         with self.assertRaisesRegex(TypeError, "samples is a list: give bytes"):
             recorder.trace(0, {}, [])
+        forged = Recorder.resume([3, 0, 0, 0, 0, 65536], bytes(8192))
+        with self.assertRaisesRegex(ValueError, "65536 samples were ever stored, as the record says: a trace has at most 65535"):
+            forged.trace(0, {}, bytes(65536 * 20))
+
+    def test_samples_that_a_trace_can_have(self):
+        recorder = Recorder.resume([3, 1, 0, 0, 0, 65534], bytes(8192 + 20))
+        self.assertIs(offer(recorder, 0), Offered.STORED)
+        self.assertEqual((recorder.ever_stored, len(recorder.drain())), (65535, 20))
+        for tick in (1, 2):
+            self.assertIs(offer(recorder, tick), Offered.IN_HOLE)
+        self.assertEqual((recorder.ever_stored, recorder.stored, recorder.holes), (65535, 0, [(1, 2)]))
+
+    def test_no_second_is_lost_between_two_traces(self):
+        """What docs/FORMAT.md says of a last hole, and of the recorder that follows."""
+        recorder = all_holes()
+        recorder.drain()
+        self.refuses((17, 0), offer, recorder, 2052)
+        following = Recorder(3, 1)
+        offer(following, 2052 - recorder.ticks)
+        self.assertEqual(following.holes, [(0, 3)])
+        card = trace_of("recorder")
+        longer = card[:166] + b"\5\0" + card[168:200] + struct.pack("<II", 30, 40) + card[200:]
+        self.assertEqual(struct.unpack_from("<H", card, 166), (4,))
+        self.assertEqual((buttmitrel.judge(longer).ticks, buttmitrel.judge(longer).unseen_ticks), (41, 9 + 11))
 
     def test_every_number_of_cells(self):
         for cells in range(3, 13):
@@ -401,7 +435,8 @@ class Recording(RefusalCase):
         for index, wrong in ((0, 4), (1, 2), (1, 4294967295), (3, 1025), (4, 2)):
             self.refuses((16, 0), Recorder.resume, [*record[:index], wrong, *record[index + 1:]], store)
         for wrong in ((record[:5], store), (record, store[1:]), ([], b""), ([2, 0, 0, 0, 0, 0], store), ([13, 0, 0, 0, 0, 0], store)):
-            self.refuses((16, 0), Recorder.resume, *wrong)
+            refused = self.refuses((16, 0), Recorder.resume, *wrong)
+            self.assertIn("give six numbers, 3 to 12 cells, and a store of at least 8192 + number * (8 + 4 * cells) bytes", str(refused))
         longer = Recorder.resume(record, store + b"rest")
         longer.drain()
         offer(longer, 2048)

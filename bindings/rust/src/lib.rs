@@ -39,7 +39,7 @@ mod rules;
 pub use judge::{judge, judge_into, net_charge, reply_count, NetCharge, Verdict};
 pub use live::{LiveFeed, TOTALS, WORDS};
 pub use pec::{check, seal, Check};
-pub use recorder::{Offered, Recorder, HOLES_BYTES, RECORD};
+pub use recorder::{NoTrace, Offered, Recorder, HOLES_BYTES, RECORD};
 pub use refusal::Refused;
 pub use report::{Flag, LiveReport, LiveRule, Outputs, Report, RuleReport, Totals, REPORT_BYTES};
 pub use rules::{rule_bytes, Rule, RULES_BYTES, RULE_SHORT_NAMES};

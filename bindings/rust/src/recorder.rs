@@ -2,6 +2,8 @@ use crate::calls;
 use crate::live::whole;
 use crate::refusal::Refused;
 use crate::rules::RULES_BYTES;
+use std::error::Error;
+use std::fmt::{Display, Formatter, Result as Written};
 
 /// The length of [`Recorder::record`].
 pub const RECORD: usize = 6;
@@ -17,6 +19,33 @@ pub enum Offered {
     /// It found no room, and its tick became part of a hole.
     InHole,
 }
+
+/// Why [`Recorder::trace`] makes no trace.
+#[derive(Clone, Copy, Debug, PartialEq, Eq, Hash)]
+pub enum NoTrace {
+    /// The samples are not as many bytes as all that were ever stored.
+    Samples {
+        /// The bytes that were given.
+        given: usize,
+        /// The bytes of all samples.
+        wanted: usize,
+    },
+    /// The record was taken up with more samples ever stored, so many, than the 65,535 of a trace.
+    EverStored(u32),
+}
+
+impl Display for NoTrace {
+    fn fmt(&self, f: &mut Formatter<'_>) -> Written {
+        match self {
+            NoTrace::Samples { given, wanted } => {
+                write!(f, "the samples are {given} bytes: drain all, and give the {wanted} bytes drained, in order")
+            }
+            NoTrace::EverStored(ever) => write!(f, "{ever} samples were ever stored, as the record says: a trace has at most 65535"),
+        }
+    }
+}
+
+impl Error for NoTrace {}
 
 /// Keeps samples until they are drained, and a hole for every tick that it could not keep: the writing side, for a capture card.
 ///
@@ -40,14 +69,14 @@ pub enum Offered {
 ///
 /// // All is drained: a trace.
 /// assert_eq!(recorder.drain(&mut samples[40..]), 1);
-/// let trace = recorder.trace(100, &[0; 160], &samples).unwrap();
+/// let trace = recorder.trace(100, &[0; 160], &samples)?;
 /// let totals = judge(&trace)?.totals;
 /// assert_eq!((totals.ticks, totals.unseen_ticks), (6, 3));
 ///
 /// // The next tick is 6.
 /// let refused = offer(&mut recorder, 5).unwrap_err();
 /// assert_eq!((refused.number, refused.place), (9, 6));
-/// # Ok::<(), buttmitrel::Refused>(())
+/// # Ok::<(), Box<dyn std::error::Error>>(())
 /// ```
 #[derive(Clone, Debug, PartialEq, Eq, Hash)]
 pub struct Recorder {
@@ -64,8 +93,8 @@ impl Recorder {
         Ok(Recorder { record, store: vec![0; HOLES_BYTES + number as usize * (8 + 4 * cells as usize)] })
     }
 
-    /// Takes up a recorder whose [`record`](Recorder::record) and [`store`](Recorder::store) were kept. What is no state of a recorder
-    /// is refusal 16.
+    /// Takes up a recorder whose [`record`](Recorder::record) and [`store`](Recorder::store) were kept, both of the same moment. Refusal
+    /// 16 unless these are six numbers, 3 to 12 cells, and at least 8192 + number * (8 + 4 * cells) bytes, with counts that have room.
     pub fn resume(record: &[u32], store: &[u8]) -> Result<Recorder, Refused> {
         calls::recorder_drain(&mut record.to_vec(), store, &mut [])?;
         Ok(Recorder { record: whole(record), store: store.to_vec() })
@@ -104,23 +133,29 @@ impl Recorder {
         self.record[4] as usize
     }
 
+    /// How many samples were ever stored, drained or not. At 65,535 every tick that is offered becomes part of a hole: end the trace.
+    pub fn ever_stored(&self) -> usize {
+        self.record[5] as usize
+    }
+
     /// The holes as a trace has them: 8 bytes each, first tick and last tick.
     pub fn holes(&self) -> &[u8] {
         &self.store[..8 * self.record[3] as usize]
     }
 
     /// The bytes of a trace with this idle current, the rules that [`rule_bytes`](crate::rule_bytes) makes, the holes, no replies and
-    /// the samples; None unless these are as many as were ever stored. Handed all that was drained, in order, [`judge`](crate::judge())
+    /// the samples, which must be as many as were ever stored. Handed all that was drained, in order, [`judge`](crate::judge())
     /// accepts the trace where it accepts idle current and rules.
-    pub fn trace(&self, idle: u16, rules: &[u8; RULES_BYTES], samples: &[u8]) -> Option<Vec<u8>> {
-        let [cells, _, _, holes, _, stored] = self.record;
-        if samples.len() != stored as usize * self.sample_bytes() {
-            return None;
+    pub fn trace(&self, idle: u16, rules: &[u8; RULES_BYTES], samples: &[u8]) -> Result<Vec<u8>, NoTrace> {
+        let [cells, _, _, holes, _, ever] = self.record;
+        let count = u16::try_from(ever).map_err(|_| NoTrace::EverStored(ever))?;
+        let (given, wanted) = (samples.len(), self.ever_stored() * self.sample_bytes());
+        if given != wanted {
+            return Err(NoTrace::Samples { given, wanted });
         }
-        let u16_bytes = |number: u32| (number as u16).to_le_bytes();
-        let head = [&[1, cells as u8][..], &idle.to_le_bytes(), &u16_bytes(16), rules].concat();
-        let sections = [&u16_bytes(holes)[..], self.holes(), &u16_bytes(0), &u16_bytes(stored), samples].concat();
-        Some([head, sections].concat())
+        let head = [&[1, cells as u8][..], &idle.to_le_bytes(), &[16, 0], rules].concat();
+        let sections = [&(holes as u16).to_le_bytes()[..], self.holes(), &[0, 0], &count.to_le_bytes(), samples].concat();
+        Ok([head, sections].concat())
     }
 
     /// Cells, room, next tick, holes, samples stored and not drained, samples ever stored.

@@ -109,7 +109,8 @@ fn replies() {
 #[test]
 fn refusals_in_words() {
     let shown = refused(9, 5).to_string();
-    assert_eq!(shown, "refused 9 at 5: a tick is covered by no record or by two, or there is no tick left");
+    let meaning = "a tick is covered by no record or by two, has already passed, or is 4294967295; the place is the tick that is expected";
+    assert_eq!(shown, format!("refused 9 at 5: {meaning}"));
     let mut meanings: Vec<&str> = (1..=17).map(|number| refused(number, 0).meaning()).collect();
     meanings.push(refused(18, 0).meaning());
     meanings.sort();

@@ -1,5 +1,5 @@
 // The recorder: the card of examples/c/recorder.c, the limits of each call, and states that are none.
-use buttmitrel::{judge, rule_bytes, Offered, Recorder, Refused, Rule, HOLES_BYTES};
+use buttmitrel::{judge, rule_bytes, NoTrace, Offered, Recorder, Refused, Rule, HOLES_BYTES};
 use std::fs;
 use std::path::Path;
 
@@ -53,13 +53,15 @@ fn the_card() {
     assert_eq!(holes(&recorder), [(9, 9), (13, 14), (18, 22), (29, 29)]);
     let mut rules = [Rule::OFF; 16];
     rules[0] = Rule { threshold: 4_200, recovery: 4_100, time: 3 };
-    assert_eq!(recorder.trace(100, &rule_bytes(&rules), &samples), None);
+    let no_trace = NoTrace::Samples { given: 360, wanted: 420 };
+    assert_eq!(recorder.trace(100, &rule_bytes(&rules), &samples), Err(no_trace));
+    assert_eq!(no_trace.to_string(), "the samples are 360 bytes: drain all, and give the 420 bytes drained, in order");
     assert_eq!(drain(&mut recorder, 9, &mut samples), 3);
     assert_eq!(drain(&mut recorder, 9, &mut samples), 0);
     let trace = recorder.trace(100, &rule_bytes(&rules), &samples).unwrap();
     let file = Path::new(env!("CARGO_MANIFEST_DIR")).join("../../examples/recorder.trace");
     assert_eq!(trace, fs::read(file).unwrap());
-    assert_eq!(recorder.record(), &[3, 6, 30, 4, 0, 21]);
+    assert_eq!((recorder.record(), recorder.ever_stored()), (&[3, 6, 30, 4, 0, 21], 21));
 }
 
 #[test]
@@ -128,6 +130,12 @@ fn samples_that_a_trace_can_have() {
     assert_eq!((holes(&recorder), recorder.stored()), (vec![(65_535, 65_535)], 0));
     let totals = judge(&recorder.trace(0, &[0; 160], &samples).unwrap()).unwrap().totals;
     assert_eq!((totals.ticks, totals.unseen_ticks, totals.charge_in_mas), (65_536, 1, 65_535 * 1_500));
+
+    // A forged count is not cut to 16 bits.
+    let forged = Recorder::resume(&[3, 0, 0, 0, 0, 65_536], &[0; HOLES_BYTES]).unwrap();
+    let no_trace = forged.trace(0, &[0; 160], &[]).unwrap_err();
+    assert_eq!(no_trace, NoTrace::EverStored(65_536));
+    assert_eq!(no_trace.to_string(), "65536 samples were ever stored, as the record says: a trace has at most 65535");
 }
 
 // Whole samples alone are drained, and what is behind them stays as it was.
