@@ -1,14 +1,13 @@
 -- What an accepted call says of its checks.
-use Prim.Native.Nat.{ℕ, _+_, _≤_, _<_}
+use Prim.Native.Nat.{ℕ, _+_}
 use mathlib.Core.Path.{_≡_, refl, sym}
 use mathlib.Core.Bool.{Bool, true, false, cond, _&&_}
 use mathlib.Core.List.{List}
-use native.Mathlib.Omega.{arith}
 use lib.Dec.{ltb, leb, eqb}
 use lib.ListN.{length}
 use borrow.Author.Tests.{ltb-true, leb-true, eqb-true}
 use Rattle.lists.proofs.Bools.{both-true}
-use Rattle.refusals.specs.Refusals.{Answer, answer, refused, andThen}
+use Rattle.refusals.specs.Refusals.{answer, andThen}
 use Rattle.refusals.proofs.Answers.{where-true, answered}
 use Rattle.rules.specs.Samples.{Sample}
 use Rattle.recording.specs.Recorder.{AfterOffer, AfterDrain, isGood, hasRoom, holesWith, stored, dropped, offered, drainCount, drainedBy, drained}

@@ -1,7 +1,6 @@
 -- Any calls from a fresh start own up to every tick.
-use Prim.Native.Nat.{ℕ, zero, suc, _+_, _-_, _*_, _/_, _≤_, _<_}
-use mathlib.Core.Path.{_≡_, refl, sym, ap, ap₂, subst, _∙_}
-use mathlib.Core.Bool.{Bool, true, false}
+use Prim.Native.Nat.{ℕ, _+_, _-_, _*_, _/_, _≤_}
+use mathlib.Core.Path.{_≡_, refl, sym, ap, subst, _∙_}
 use mathlib.Core.List.{List, [], _∷_, _++_, append-nil, append-assoc}
 use native.Mathlib.Omega.{arith}
 use native.Mathlib.Nat.{div-eq-of-eq-mul-left}
@@ -10,10 +9,10 @@ use lib.Seq.{length-take-le, take-all}
 use Rattle.lists.specs.Lists.{Every}
 use Rattle.refusals.specs.Refusals.{Answer, answer, refused}
 use Rattle.refusals.proofs.Answers.{where-true}
-use Rattle.bytes_le.specs.Numbers.{u16At, spaced}
+use Rattle.bytes_le.specs.Numbers.{spaced}
 use Rattle.bytes_le.proofs.Spaced.{same-spaced}
 use Rattle.rules.specs.Samples.{Sample, cellCount}
-use Rattle.trace.specs.Records.{Hole, Stamped, sampleWidth, holeAt, stampedAt, holesFrom, holesIn}
+use Rattle.trace.specs.Records.{Stamped, sampleWidth, holeAt, stampedAt, holesFrom, holesIn}
 use Rattle.trace.specs.Coverage.{repliesAnswer}
 use Rattle.trace.specs.Acceptance.{Parsed, acceptAnswer}
 use Rattle.trace.specs.Writing.{eachBytes, sampleBytes, Start, WholeRecords}
@@ -25,8 +24,7 @@ use Rattle.ticks.specs.promises.Promises.{writtenTrace}
 use Rattle.ticks.proofs.AscendingHoles.{in-order}
 use Rattle.ticks.proofs.Cuts.{covers}
 use Rattle.ticks.proofs.WrittenTraces.{start-sound, written-trace}
-use Rattle.recording.specs.Recorder.{AfterOffer, AfterDrain, startAnswer, stamped, offered, drained}
-use Rattle.recording.specs.declared.Recorder.{Recorder}
+use Rattle.recording.specs.Recorder.{AfterOffer, AfterDrain, stamped, offered, drained}
 use Rattle.histories.specs.Calls.{Call, offer, drain, Typed, Standing, fresh, after, afterAll, storedBy, storedIn}
 use Rattle.histories.specs.promises.OwningUp.{holesOf, recorded, OwnsUp, OwningUp}
 use Rattle.histories.proofs.CountedOnce.{counted-once, counted-none}

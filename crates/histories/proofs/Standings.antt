@@ -1,14 +1,14 @@
 -- How a recorder stands after any calls, and that each call keeps it so.
-use Prim.Native.Nat.{ℕ, zero, suc, _+_, _-_, _*_, _≤_, _<_}
+use Prim.Native.Nat.{ℕ, _+_, _-_, _*_, _≤_, _<_}
 use mathlib.Core.Path.{_≡_, refl, sym, ap, ap₂, subst, _∙_}
-use mathlib.Core.Bool.{true, false}
-use mathlib.Core.List.{List, [], _∷_, _++_, append-nil}
+use mathlib.Core.Bool.{true}
+use mathlib.Core.List.{List, [], _∷_, _++_}
 use native.Mathlib.Omega.{arith}
 use native.Mathlib.Numerals.{add-one}
 use lib.ListN.{length, take, drop, length-append, length-drop}
-use lib.Seq.{take-append-le, take-add, length-take-le, take-all}
+use lib.Seq.{take-append-le, take-add, length-take-le}
 use Rattle.lists.specs.Lists.{Every}
-use Rattle.refusals.specs.Refusals.{Answer, answer, refused}
+use Rattle.refusals.specs.Refusals.{answer}
 use Rattle.bytes_le.specs.Numbers.{spaced}
 use Rattle.bytes_le.specs.Writing.{putAt}
 use Rattle.bytes_le.proofs.Copying.{put-read, put-long}
@@ -17,19 +17,18 @@ use Rattle.trace.specs.Records.{Stamped, sampleWidth, holesFrom}
 use Rattle.trace.specs.Writing.{eachBytes, sampleBytes}
 use Rattle.trace.proofs.EachBytes.{each-append, each-long}
 use Rattle.trace.proofs.SampleBytes.{Carries, sample-written}
-use Rattle.ticks.specs.inner.Places.{Place, done}
-use Rattle.recording.specs.Recorder.{AfterOffer, AfterDrain, stamped, slotOf, hasRoom, holesWith, storeWith, stored, dropped, offered, oldest, bytesFrom, drainCount, drainedBy, drained}
-use Rattle.recording.specs.inner.Steps.{Good, Fits}
+use Rattle.ticks.specs.inner.Places.{done}
+use Rattle.recording.specs.Recorder.{stamped, slotOf, hasRoom, holesWith, storeWith, stored, dropped, oldest, bytesFrom, drainCount, drainedBy, drained}
+use Rattle.recording.specs.inner.Steps.{Good}
 use Rattle.recording.specs.declared.Recorder.{Recorder}
 use Rattle.recording.proofs.GoodRecords.{room-facts, slot-within}
 use Rattle.recording.proofs.Turns.{whole-fit}
-use Rattle.histories.specs.Calls.{Call, offer, drain, Typed, Standing, after, storedBy, handedOver}
+use Rattle.histories.specs.Calls.{drain, Standing, after}
 use Rattle.histories.proofs.LongerPlaces.{sample-more}
 use Rattle.histories.proofs.StoredHoles.{holes-kept}
-use Rattle.histories.proofs.UnseenTicks.{Covers, SameSamples, unseen-put}
+use Rattle.histories.proofs.UnseenTicks.{Covers, unseen-put}
 use Rattle.histories.proofs.StoredSamples.{Kept, kept-beside, kept-more, oldest-kept}
 use Rattle.histories.proofs.EveryElement.{every-append, every-take, every-drop}
-use Rattle.histories.proofs.Outcomes.{offer-cases, drain-case}
 
 -- A recorder of n cells that stored the samples xs.
 pub record Stands (n : ℕ) (s : Standing) (xs : List Stamped) : Type 0 where

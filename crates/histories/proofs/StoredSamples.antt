@@ -1,15 +1,13 @@
 -- The samples of a store, whose places are used in turn.
 use Prim.Native.Nat.{ℕ, zero, suc, _+_, _-_, _*_, _%_, _≤_, _<_}
 use mathlib.Core.Path.{_≡_, refl, sym, ap, ap₂, _∙_}
-use mathlib.Core.Bool.{Bool, true, false}
 use mathlib.Core.List.{List, [], _∷_, _++_}
-use mathlib.Core.Logic.{_⊎_, inl, inr}
 use native.Mathlib.Omega.{arith}
 use native.Mathlib.Nat.{add-zero, add-mul, one-mul, mul-le-mul-right, mod-lt, mod-eq-of-lt, mod-add-mod, mod-eq-sub-mod, add-mod-right}
 use lib.IntN.{pos}
 use lib.ListN.{length, getD, take, drop, List·getD-append}
-use lib.Seq.{drop-cons, getD-at, getD-append-add}
-use Rattle.lists.proofs.Bools.{by-order, below?}
+use lib.Seq.{drop-cons, getD-at}
+use Rattle.lists.proofs.Bools.{by-order}
 use Rattle.bytes_le.specs.Writing.{putAt}
 use Rattle.trace.specs.Records.{Stamped, sampleWidth}
 use Rattle.trace.specs.Writing.{eachBytes, sampleBytes}

@@ -1,14 +1,14 @@
 -- Unseen ticks put among the holes of a store: the records still cover every tick.
 use Prim.Native.Nat.{ℕ, suc, _+_, _-_, _*_, _≤_, _<_}
 use mathlib.Core.Path.{_≡_, refl, subst}
-use mathlib.Core.Bool.{Bool, true, false, cond, _&&_}
+use mathlib.Core.Bool.{Bool, true, false, cond}
 use mathlib.Core.List.{List, [], _∷_, _++_}
 use native.Mathlib.Omega.{arith}
 use lib.Dec.{ltb, leb, eqb}
 use lib.ListN.{length, drop, length-append}
 use borrow.Author.Tests.{ltb-true, leb-true, leb-false, eqb-true}
 use Rattle.lists.proofs.Bools.{both-true}
-use Rattle.refusals.specs.Refusals.{Answer, answer, refused}
+use Rattle.refusals.specs.Refusals.{answer, refused}
 use Rattle.refusals.proofs.Answers.{clash}
 use Rattle.bytes_le.specs.Numbers.{u32At}
 use Rattle.bytes_le.specs.Writing.{bytesOf, putAt}

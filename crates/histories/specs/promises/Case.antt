@@ -6,10 +6,8 @@ use lib.IntN.{pos, negsuc}
 use lib.ListN.{replicate}
 use Rattle.refusals.specs.Refusals.{answer}
 use Rattle.rules.specs.Samples.{Sample, sampleOf}
-use Rattle.trace.specs.Records.{Hole, Stamped}
 use Rattle.trace.specs.Acceptance.{acceptAnswer, ticksOf}
 use Rattle.recording.specs.Recorder.{stamped}
-use Rattle.recording.specs.declared.Recorder.{Recorder}
 use Rattle.histories.specs.Calls.{Call, offer, drain, Standing, fresh, afterAll, storedIn}
 use Rattle.histories.specs.promises.OwningUp.{holesOf, recorded}
 
