@@ -62,6 +62,19 @@ look_at_progress() {
     printf -v progress '%d of %d crates proved, %d:%02d so far' "$proved" "${#order[@]}" $((SECONDS / 60)) $((SECONDS % 60))
 }
 
+# Sets `ended`, `status` and `crate` where a crate has ended of which `wait -n` did not say so: on a busy machine it misses some.
+find_ended() {
+    for ended in "${!running[@]}"; do
+        crate=${running[$ended]}
+        kill -0 "$ended" 2>/dev/null && continue
+        wait "$ended"
+        status=$?
+        return
+    done
+    sleep 0.1
+    return 1
+}
+
 # Waits until a crate ends; on a terminal, until a second has passed. Elsewhere a crate that had to be proved gets a line.
 wait_for_crate() {
     local ended='' crate status progress log
@@ -79,7 +92,7 @@ wait_for_crate() {
     crate=${running[${ended:-0}]-}
     if [ -z "$crate" ]; then
         clock=''
-        return
+        find_ended || return 0
     fi
     unset "running[$ended]"
     if [ "$status" -ne 0 ]; then
