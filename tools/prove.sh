@@ -62,7 +62,7 @@ look_at_progress() {
     printf -v progress '%d of %d crates proved, %d:%02d so far' "$proved" "${#order[@]}" $((SECONDS / 60)) $((SECONDS % 60))
 }
 
-# Sets `ended`, `status` and `crate` where a crate has ended of which `wait -n` did not say so: on a busy machine it misses some.
+# Sets `ended`, `status` and `crate` where a crate has ended of which `wait -n` did not say so: seen once, on a busy machine.
 find_ended() {
     for ended in "${!running[@]}"; do
         crate=${running[$ended]}
