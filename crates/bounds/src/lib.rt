@@ -1,6 +1,8 @@
 // The least and the greatest possible state of the sixteen rules, and the first ticks of the report, which follow from them
 // (paper 01, 'Three-way outputs'). Of each rule two lanes of 8 bits are kept: the loops that test and move all rules at a seen
 // tick have no branch. A part of the judge of a trace, its only caller.
+#![tactic(auto)]
+
 ghost use Rattle.std.specs.Prelude.{◌≡◌, cond, T};
 ghost use Rattle.bounds.specs.Plan.{tests_of, lanes_of};
 ghost use Rattle.bounds.specs.Steps.{sized, readable, Within32, states_seen, states_missed, flags_of_states};

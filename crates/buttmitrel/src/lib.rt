@@ -1,5 +1,7 @@
 // The library for programs in C and Rust (include/buttmitrel.h): each call answers a number below
 // 4,294,967,296, which is 0, a verdict or a count, or the number of a refusal times 4,294,967,296 plus its place.
+#![tactic(auto)]
+
 ghost use Rattle.std.specs.Prelude.{◌≡◌};
 ghost use Rattle.refusals.specs.Refusals.{refusal, or_kept};
 ghost use Rattle.pec.specs.Reply.{seal_answer, sealed, check_answer};

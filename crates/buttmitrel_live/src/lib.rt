@@ -1,4 +1,6 @@
 // The live feed for programs in C and Rust (include/buttmitrel.h), which keep the state in lists of their own and lend them to each call.
+#![tactic(auto)]
+
 ghost use Rattle.std.specs.Prelude.{◌≡◌, [], ◌∷◌};
 ghost use Rattle.rules.specs.Samples.{sample_of};
 ghost use Rattle.states.specs.Records.{fresh};

@@ -1,4 +1,6 @@
 // The recorder for programs in C and Rust (include/buttmitrel.h), which keep the record as six numbers and lend them to each call.
+#![tactic(auto)]
+
 ghost use Rattle.std.specs.Prelude.{◌≡◌, length};
 ghost use Rattle.rules.specs.Samples.{sample_of};
 ghost use Rattle.recording.specs.Recorder.{offer_answer, store_after_offer, drain_answer, buffer_after_drain};

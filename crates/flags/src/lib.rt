@@ -1,4 +1,6 @@
 // Three-way flags, and the outputs that several rules drive (paper 01, 'Three-way outputs').
+#![tactic(auto)]
+
 ghost use Rattle.std.specs.Prelude.{◌≡◌, cond};
 ghost use Rattle.flags.specs.Flags.{number_of, flag_of, with_next};
 ghost use Rattle.rules.specs.Table.{rows};
@@ -6,7 +8,7 @@ ghost use Rattle.flags.specs.Outputs.{output_of, drivers, statuses_of};
 
 use rules::Row;
 
-#[derive(Drop)]
+#[derive(Clone, Copy)]
 pub enum Flag {
     Clear,
     Held,
@@ -55,20 +57,20 @@ fn with_next(driver: Flag, rest: Flag) -> Flag
     }
 }
 
-#[derive(Drop)]
+#[derive(Clone, Copy)]
 pub struct RuleFlags {
     pub alert: Flag,
     pub status: Flag,
 }
 
 // The flags of all rules.
-#[derive(Drop)]
+#[derive(Clone, Copy)]
 pub struct Flags {
     pub of: [RuleFlags; 16],
 }
 
 // What several rules drive together. The last three are bits of BatteryStatus.
-#[derive(Drop)]
+#[derive(Clone, Copy)]
 pub enum Output {
     ChargeOpen,
     DischargeOpen,

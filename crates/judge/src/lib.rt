@@ -1,4 +1,6 @@
 // The judge of a trace (paper 01): the report of 187 bytes and a verdict on each reply.
+#![tactic(auto)]
+
 ghost use Rattle.std.specs.Prelude.{◌≡◌};
 ghost use Rattle.judge.specs.Judge.{answer_of_judged, buffers_answer, judge_answer, report_after, verdicts_after};
 
@@ -11,7 +13,7 @@ use parts::judge_accepted;
 use refusals::Refusal;
 use trace::{Accepted, Walk};
 
-#[derive(Drop)]
+#[derive(Clone, Copy)]
 pub enum Judged {
     Accepted,
     Refused(Refusal),

@@ -1,4 +1,6 @@
 // The limits of a rule set, lent as 160 bytes or held as settings (paper 01, 'The sixteen rules').
+#![tactic(auto)]
+
 ghost use Rattle.std.specs.Prelude.{◌≡◌, cond, ◌<◌};
 ghost use Rattle.lists.specs.Lists.{tabulate};
 ghost use Rattle.rules.specs.Table.{rows, row_at};
@@ -12,21 +14,21 @@ use rule::accepts;
 use rules::{Setting, Settings, is_cell_count, row_at};
 pub use settings::check_settings;
 
-#[derive(Drop)]
+#[derive(Clone, Copy)]
 pub enum Limited {
     Within,
     Refused(Refusal),
 }
 
 // A rule set that was checked, and its settings: all off where it is refused.
-#[derive(Drop)]
+#[derive(Clone, Copy)]
 pub struct RuleSet {
     pub answer: Limited,
     pub settings: Settings,
 }
 
 // A rule of a rule set: its setting, or that its numbers are outside their limits.
-#[derive(Drop)]
+#[derive(Clone, Copy)]
 enum Checked {
     Accepted(Setting),
     Beyond,

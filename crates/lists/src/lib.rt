@@ -1,1 +1,2 @@
 // Definitions and laws, and no code: lists by their numbers, and tests as facts.
+#![tactic(auto)]

@@ -1,5 +1,7 @@
 // The live feed (paper 01): a card in a running analyzer feeds samples and holes one by one. Each call takes any state whatever;
 // one that is no good state is refusal 16, and a refused call answers the state that it was given.
+#![tactic(auto)]
+
 ghost use Rattle.std.specs.Prelude.{◌≡◌};
 ghost use Rattle.rules.specs.Samples.{sample_of};
 ghost use Rattle.live.specs.Calls.{answer_of_fed, begin_answer, begin_state, sample_answer, sample_state, hole_answer, hole_state, of_good, flags_read, output_read, answer_of_output, totals_read, answer_of_totals, net_read};
@@ -21,7 +23,7 @@ use steps::{refuse, take_hole, take_sample};
 use totals::NetCharge;
 
 // Head, rules, possible states and totals; the expected tick is `totals.ticks`.
-#[derive(Drop)]
+#[derive(Clone, Copy)]
 pub struct Live {
     pub cells: u8,
     pub idle: u16,
@@ -30,14 +32,14 @@ pub struct Live {
     pub totals: Totals,
 }
 
-#[derive(Drop)]
+#[derive(Clone, Copy)]
 pub enum Fed {
     Taken,
     Refused(Refusal),
 }
 
 // What a call that feeds answers: whether it was taken, and the state after it.
-#[derive(Drop)]
+#[derive(Clone, Copy)]
 pub struct Step {
     pub answer: Fed,
     pub state: Live,
@@ -99,7 +101,7 @@ pub fn hole(state: Live, last: u32) -> Step
 }
 
 // The flags of all rules; all unknown where the call refuses.
-#[derive(Drop)]
+#[derive(Clone, Copy)]
 pub struct FlagsRead {
     pub answer: Fed,
     pub flags: Flags,
@@ -128,7 +130,7 @@ pub fn flags(state: Live) -> FlagsRead
     }
 }
 
-#[derive(Drop)]
+#[derive(Clone, Copy)]
 pub enum OutputRead {
     Reads(Flag),
     Refused(Refusal),
@@ -147,7 +149,7 @@ pub fn output(state: Live, o: Output) -> OutputRead
     OutputRead::Refused(Refusal::State)
 }
 
-#[derive(Drop)]
+#[derive(Clone, Copy)]
 pub enum TotalsRead {
     Counted(Totals),
     Refused(Refusal),

@@ -6,18 +6,18 @@ use rules::{Setting, Settings};
 use states::States;
 
 // The bytes of the rules that a beginning is lent, and one more.
-#[derive(Drop)]
+#[derive(Clone, Copy)]
 pub(crate) struct Lent {
     pub(crate) bytes: [u8; 161],
 }
 
 // The fields that have no place, by their letters.
-#[derive(Drop)]
+#[derive(Clone, Copy)]
 pub(crate) struct Numbers {
     pub(crate) of: [u64; 32],
 }
 
-#[derive(Drop)]
+#[derive(Clone, Copy)]
 pub(crate) struct Case {
     pub(crate) states: States,
     pub(crate) settings: Settings,

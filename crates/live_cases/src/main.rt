@@ -1,5 +1,7 @@
 // Calls of the live feed on states good and forged (paper 01, 'Refusal numbers'). The cases are the file 'stdin', which says how
 // they are written; each line comes back, with the answer of the call that it names.
+#![tactic(auto)]
+
 mod answers;
 mod calls;
 mod case;

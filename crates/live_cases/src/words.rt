@@ -1,7 +1,7 @@
 // The words of a line.
 
 // A word as far as it is read: its first letter and, once it has '=', the place and the value of its field.
-#[derive(Drop)]
+#[derive(Clone, Copy)]
 pub(crate) struct Word {
     pub(crate) letter: u8,
     pub(crate) field: u8,

@@ -1,4 +1,6 @@
 // The SMBus packet error code, and read-word replies sealed and checked with it (paper 01, 'Replies').
+#![tactic(auto)]
+
 ghost use Rattle.std.specs.Prelude.{◌≡◌};
 ghost use Rattle.pec.specs.Code.{pec_of};
 ghost use Rattle.pec.specs.Reply.{answer_of_seal, answer_of_check, seal_answer, sealed, check_answer};
@@ -21,7 +23,7 @@ pub fn pec(message: &[u8]) -> u8
     code
 }
 
-#[derive(Drop)]
+#[derive(Clone, Copy)]
 pub enum Sealed {
     Written,
     Refused(Refusal),
@@ -45,7 +47,7 @@ pub fn seal(command: u8, word: u16, buffer: &mut [u8]) -> Sealed
     Sealed::Written
 }
 
-#[derive(Drop)]
+#[derive(Clone, Copy)]
 pub enum Checked {
     Intact,
     WrongAddress,

@@ -1,7 +1,9 @@
 // Reads messages, a line of hex digits each, and writes the packet error code of each, a line of two hex digits.
+#![tactic(auto)]
+
 use libc::{STDIN_FILENO, STDOUT_FILENO};
 
-#[derive(Drop)]
+#[derive(Clone, Copy)]
 struct Line {
     bytes: [u8; 64],
     digits: usize,

@@ -1,11 +1,13 @@
 // A reader that keeps the trace it was lent and a place in it (paper 01, 'The form for each place'): thin over the walk
 // `trace::advance`, which takes both as parameters.
+#![tactic(auto)]
+
 ghost use Rattle.std.specs.Prelude.{◌≡◌};
 ghost use Rattle.trace.specs.Next.{next_answer, answer_of_next, place_after};
 
 use trace::{Next, Step};
 
-#[derive(Drop)]
+#[derive(Clone, Copy)]
 pub struct Reader<'a> {
     pub trace: &'a [u8],
     pub at: usize,

@@ -1,5 +1,7 @@
 // A recorder whose record is lent once and updated where it stands (paper 01, 'The form for each place'): thin over `recording`,
 // whose calls take the record by value.
+#![tactic(auto)]
+
 ghost use Rattle.std.specs.Prelude.{◌≡◌};
 ghost use Rattle.rules.specs.Samples.{sample_of};
 ghost use Rattle.recording.specs.Recorder.{answer_of_offered, offered, offer_answer, recorder_after_offer, store_after_offer, answer_of_drained, drained, drain_answer, recorder_after_drain, buffer_after_drain};

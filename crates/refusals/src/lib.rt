@@ -1,8 +1,10 @@
 // Why a call refuses, and the papers' number and place of each reason (paper 01, 'Refusal numbers'; 17 is paper 02's, item 1).
+#![tactic(auto)]
+
 ghost use Rattle.std.specs.Prelude.{◌≡◌};
 ghost use Rattle.refusals.specs.Refusals.{number_of, place_of};
 
-#[derive(Drop)]
+#[derive(Clone, Copy)]
 pub enum Refusal {
     TooShort,
     Version,

@@ -1,4 +1,6 @@
 // The report of 187 bytes (paper 01, 'Three-way outputs').
+#![tactic(auto)]
+
 ghost use Rattle.std.specs.Prelude.{◌≡◌};
 ghost use Rattle.report.specs.Layout.{answer_of_report, report_answer, reported};
 
@@ -8,20 +10,20 @@ use flags::Flags;
 use refusals::Refusal;
 
 // The first tick at which a rule's status is held or unknown, and the first at which it is held; FFFFFFFFh for none.
-#[derive(Drop)]
+#[derive(Clone, Copy)]
 pub struct FirstTicks {
     pub possible: u32,
     pub held: u32,
 }
 
 // Those of all rules.
-#[derive(Drop)]
+#[derive(Clone, Copy)]
 pub struct AllFirstTicks {
     pub of: [FirstTicks; 16],
 }
 
 // Charge in and out in mA seconds, unseen ticks, ticks.
-#[derive(Drop)]
+#[derive(Clone, Copy)]
 pub struct Totals {
     pub charge_in: u64,
     pub charge_out: u64,
@@ -29,7 +31,7 @@ pub struct Totals {
     pub ticks: u32,
 }
 
-#[derive(Drop)]
+#[derive(Clone, Copy)]
 pub enum Reported {
     Written,
     Refused(Refusal),

@@ -1,5 +1,7 @@
 // The sixteen rules (paper 01, 'The sixteen rules'): their table, what they read of a sample, what one evaluation of a rule
 // finds, and how many there are in a run of ticks.
+#![tactic(auto)]
+
 ghost use Rattle.std.specs.Prelude.{◌≡◌};
 ghost use Rattle.rules.specs.Samples.{cell_count};
 ghost use Rattle.rules.specs.Table.{rows, row_at};
@@ -12,7 +14,7 @@ pub use evaluation::{
 };
 
 // What a rule looks at. A quantity 'charging' or 'discharging' counts towards the threshold only while the pack does so.
-#[derive(Drop)]
+#[derive(Clone, Copy)]
 pub enum Quantity {
     HighestCell,
     LowestCell,
@@ -25,7 +27,7 @@ pub enum Quantity {
     CellDifference,
 }
 
-#[derive(Drop)]
+#[derive(Clone, Copy)]
 pub enum Side {
     High,
     Low,
@@ -33,7 +35,7 @@ pub enum Side {
 
 // One row of the table. A rule that does not recover latches and commands the fuse; `charge` and `discharge` say which
 // MOSFETs it opens, and `bits` which bits of BatteryStatus it sets.
-#[derive(Drop)]
+#[derive(Clone, Copy)]
 pub struct Row {
     pub quantity: Quantity,
     pub side: Side,
@@ -44,7 +46,7 @@ pub struct Row {
     pub bits: u16,
 }
 
-#[derive(Drop)]
+#[derive(Clone, Copy)]
 pub struct Table {
     pub of: [Row; 16],
 }
@@ -240,14 +242,14 @@ pub fn row_at(i: usize) -> Row
 }
 
 // A rule's numbers. Time 0 switches it off.
-#[derive(Drop)]
+#[derive(Clone, Copy)]
 pub struct Setting {
     pub threshold: i32,
     pub recovery: i32,
     pub time: u8,
 }
 
-#[derive(Drop)]
+#[derive(Clone, Copy)]
 pub struct Settings {
     pub of: [Setting; 16],
 }
@@ -260,7 +262,7 @@ pub fn is_cell_count(cells: u8) -> bool
 }
 
 // What the rules read of a sample.
-#[derive(Drop)]
+#[derive(Clone, Copy)]
 pub struct Readings {
     pub current: i16,
     pub board: i16,

@@ -1,6 +1,8 @@
 // The possible states of all rules, which the live feed keeps (paper 01, 'The form for each place'): one record by value with a
 // flat array, the steps on it, and the flags that it gives. A part of the live feed, which asks `valid` first: the other calls
 // answer for any words, and of a rule with no possible state the flags read unknown.
+#![tactic(auto)]
+
 ghost use Rattle.std.specs.Prelude.{◌≡◌};
 ghost use Rattle.states.specs.Records.{fresh};
 ghost use Rattle.states.specs.Steps.{after_seen, after_unseen};
@@ -21,7 +23,7 @@ use unseen::miss;
 pub use validity::valid;
 
 // Five words a rule: state s of rule i is bit s of the words from 5 i on, the lowest first.
-#[derive(Drop)]
+#[derive(Clone, Copy)]
 pub struct States {
     pub words: [u64; 80],
 }

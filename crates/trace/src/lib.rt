@@ -1,4 +1,6 @@
 // A trace taken apart and checked (paper 01, 'The trace', 'Refusal numbers').
+#![tactic(auto)]
+
 ghost use Rattle.std.specs.Prelude.{◌≡◌};
 ghost use Rattle.trace.specs.Sections.{walk_answer, answer_of_walk, reply_count, answer_of_count};
 ghost use Rattle.trace.specs.Acceptance.{accept_answer, answer_of_accept, ticks_of, layout_of, settings_in};
@@ -17,7 +19,7 @@ pub use sections::sample_width;
 use sections::{Checked, Sectioned, check_head, check_rule_count, read_section};
 
 // Where the sections of a trace lie, and the bytes of a sample. The rules are the bytes 6 to 165.
-#[derive(Drop)]
+#[derive(Clone, Copy)]
 pub struct Layout {
     pub cells: u8,
     pub idle: u16,
@@ -30,7 +32,7 @@ pub struct Layout {
     pub sample_width: usize,
 }
 
-#[derive(Drop)]
+#[derive(Clone, Copy)]
 pub enum Walk {
     Whole(Layout),
     Refused(Refusal),
@@ -73,7 +75,7 @@ pub fn walk_sections(s: &[u8]) -> Walk
     })
 }
 
-#[derive(Drop)]
+#[derive(Clone, Copy)]
 pub enum ReplyCount {
     Replies(usize),
     Refused(Refusal),
@@ -89,14 +91,14 @@ pub fn reply_count(s: &[u8]) -> ReplyCount
     }
 }
 
-#[derive(Drop)]
+#[derive(Clone, Copy)]
 pub enum Accepted {
     Covered(u32),
     Refused(Refusal),
 }
 
 // An acceptance: the ticks that the trace covers, its layout and its settings.
-#[derive(Drop)]
+#[derive(Clone, Copy)]
 pub struct Acceptance {
     pub answer: Accepted,
     pub layout: Layout,

@@ -1,4 +1,6 @@
 // The verdict on a read-word reply of the pack (paper 01, 'Replies').
+#![tactic(auto)]
+
 ghost use Rattle.std.specs.Prelude.{◌≡◌, cond, ◌||◌, ◌+◌, ◌*◌, ◌<◌, eqb, length, get_or};
 ghost use Rattle.std.specs.Int.Signed.{le_z};
 ghost use Rattle.std.specs.Int.{w16};
@@ -12,21 +14,21 @@ use refusals::Refusal;
 use rules::and;
 
 // What is known of a reply's tick: its sample's sum of cells and current, or nothing, inside a hole.
-#[derive(Drop)]
+#[derive(Clone, Copy)]
 pub enum Tick {
     Seen { sum_of_cells: u32, current: i16 },
     Unseen,
 }
 
 // The flags of the bits 4000h, 1000h and 0800h of BatteryStatus after the tick's evaluations.
-#[derive(Drop)]
+#[derive(Clone, Copy)]
 pub struct Alarms {
     pub terminate_charge: Flag,
     pub over_temp: Flag,
     pub terminate_discharge: Flag,
 }
 
-#[derive(Drop)]
+#[derive(Clone, Copy)]
 pub enum Verdict {
     WrongAddress,
     WrongCode,

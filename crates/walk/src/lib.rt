@@ -1,10 +1,12 @@
 // The walk over the ticks of a trace, in the parts that hold its holes and its samples: at each place it says whether unseen
 // ticks, a sample or the end comes next. A hole is never walked tick by tick.
+#![tactic(auto)]
+
 ghost use Rattle.std.specs.Prelude.{◌≡◌, ◌+◌, ◌<◌, ◌^◌, leb, length};
 ghost use Rattle.walk.specs.Walk.{start_of, hole_here, past_run, past_sample, ahead};
 
 // A place: the bytes of the next hole and of the next sample in their parts, and the next tick, which may lie inside that hole.
-#[derive(Drop)]
+#[derive(Clone, Copy)]
 pub struct Cursor {
     pub hole: usize,
     pub sample: usize,
@@ -12,7 +14,7 @@ pub struct Cursor {
 }
 
 // What comes next, with the place after it.
-#[derive(Drop)]
+#[derive(Clone, Copy)]
 pub enum Ahead {
     Unseen(Cursor),
     Sample(Cursor),

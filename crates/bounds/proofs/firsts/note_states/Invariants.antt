@@ -1,0 +1,13 @@
+use mathlib.Core.Path.{sym, ◌∙◌}
+use Prim.Native.Nat.{◌-◌}
+use borrow.Author.Rules.{rules}
+use native.Mathlib.Omega.{arith}
+use Rattle.bounds.proofs.Noting.{Noting, noting_start, noting_next, noting_end}
+use Prim.Native.Nat.{◌-◌}
+use Rattle.bounds.proofs.firsts.note_states.Given as goal
+
+abbrev pub invariant-loop-i : goal.invariant-loop-i
+invariant-loop-i l = Noting l.lanes l.tick l.states l.initial.firsts l.firsts l.i
+
+abbrev pub decreases-loop-i : goal.decreases-loop-i
+decreases-loop-i l = 16 - l.i

@@ -1,0 +1,19 @@
+use Rattle.rules.proofs.Rows.{row_of}
+use Rattle.rules.specs.declared.Row.{Row}
+use mathlib.Core.Path.{refl, ap, ◌∙◌}
+use Prim.Native.Nat.{◌-◌}
+use borrow.Author.Rules.{rules}
+use native.Mathlib.Omega.{arith}
+use Rattle.bounds.specs.Plan.{lanes_of}
+use Rattle.limits.specs.Limits.{setting_of}
+use Rattle.rules.specs.Evaluation.{top}
+use Rattle.rules.specs.Table.{row_at}
+use mathlib.Core.Bool.{cond}
+use Rattle.bounds.proofs.Pairing.{Pairing, pairing_start, pairing_next, pairing_end}
+use Rattle.bounds.proofs.lanes_of.Given as goal
+
+abbrev pub invariant-loop-i : goal.invariant-loop-i
+invariant-loop-i l = Pairing 0 (λ j. top (setting_of l.settings.of j).time) (λ j. cond (row_at j).even 0 1) l.initial.lanes l.lanes l.i
+
+abbrev pub decreases-loop-i : goal.decreases-loop-i
+decreases-loop-i l = 16 - l.i

@@ -1,0 +1,20 @@
+use Rattle.bounds.proofs.Values.{told}
+use Rattle.rules.proofs.Rows.{row_of}
+use Rattle.rules.specs.declared.Row.{Row}
+use mir.Syntax.{w32}
+use mathlib.Core.Path.{◌≡◌, refl, ap, ◌∙◌}
+use borrow.Author.Rules.{rules}
+use native.Mathlib.Omega.{arith}
+use Rattle.bounds.specs.Plan.{test_at, tests_of}
+use Rattle.lists.proofs.Laying.{Laying, laying_start, laying_next, laying_end}
+use Rattle.limits.specs.Limits.{setting_of}
+use Rattle.rules.specs.Table.{row_at}
+use lib.IntN.{pos}
+use Prim.Native.Nat.{◌-◌, ◌/◌, ◌%◌}
+use Rattle.bounds.proofs.tests_of.Given as goal
+
+abbrev pub invariant-loop-j : goal.invariant-loop-j
+invariant-loop-j l = Laying (pos 0) 64 (λ k. test_at (k / 16) (row_at (k % 16)) (setting_of l.settings.of (k % 16))) l.tests l.j
+
+abbrev pub decreases-loop-j : goal.decreases-loop-j
+decreases-loop-j l = 64 - l.j

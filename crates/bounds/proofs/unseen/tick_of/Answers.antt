@@ -1,0 +1,8 @@
+use borrow.Author.Rules.{rules}
+use Rattle.bounds.proofs.unseen.tick_of.Goals as goal
+
+pub returns-then-row : goal.returns-then-row
+returns-then-row c = rw c.if-row.true
+
+pub returns : goal.returns
+returns c = rw c.if-row.false

@@ -1,0 +1,13 @@
+use mathlib.Core.Path.{sym, ap, ◌∙◌}
+use borrow.Author.Rules.{rules}
+use Rattle.judge.specs.Judge.{answer_of_judged}
+use Rattle.buttmitrel.specs.Code.{code_of}
+use Rattle.buttmitrel.proofs.buttmitrel_judge.Goals as goal
+
+pub returns-in-Accepted : goal.returns-in-Accepted
+returns-in-Accepted c = let e = c.judge.ensures in
+    (ap code_of (sym (ap answer_of_judged c.in-Accepted.is) ∙ e.0), e.1)
+
+pub returns-in-Refused : goal.returns-in-Refused
+returns-in-Refused c = let e = c.judge.ensures in
+    (c.code.ensures ∙ ap code_of (sym (ap answer_of_judged c.in-Refused.is) ∙ e.0), e.1)

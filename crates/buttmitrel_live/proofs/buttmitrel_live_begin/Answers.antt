@@ -1,0 +1,11 @@
+use Rattle.lists.specs.Lists.{tabulate}
+use Rattle.limits.specs.Limits.{settings_of, off}
+use Rattle.live.specs.Calls.{begin_answer}
+use Rattle.buttmitrel_live.proofs.Feeding.{begins}
+use borrow.Author.Rules.{rules}
+use Rattle.buttmitrel_live.proofs.buttmitrel_live_begin.Goals as goal
+
+pub returns : goal.returns
+returns c = let a = c.args in
+    begins a.words.now a.totals.now a.cells a.idle (settings_of a.rules.now) (tabulate 16 (λ i. off)) (begin_answer a.cells a.idle a.rules.now)
+    c.begin-step.ensures.0 c.begin-step.ensures.1 c.store.ensures

@@ -1,0 +1,9 @@
+use native.Mathlib.Omega.{arith}
+use Rattle.bytes_le.proofs.Puts.{Putting, put_not, putting_start, putting_next, putting_end}
+use Rattle.bytes_le.proofs.put.Given as goal
+
+abbrev pub invariant-loop-left : goal.invariant-loop-left
+invariant-loop-left l = Putting l.initial.buffer l.at l.count l.v l.buffer l.i l.left l.rest
+
+abbrev pub decreases-loop-left : goal.decreases-loop-left
+decreases-loop-left l = l.left

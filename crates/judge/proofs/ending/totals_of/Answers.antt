@@ -1,0 +1,5 @@
+use borrow.Author.Rules.{rules}
+use Rattle.judge.proofs.ending.totals_of.Goals as goal
+
+pub returns : goal.returns
+returns c = rw (c.count_unseen-unseen.ensures, c.sum_charge-charge.ensures.0, c.sum_charge-charge.ensures.1)

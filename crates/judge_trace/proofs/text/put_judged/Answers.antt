@@ -1,0 +1,32 @@
+use native.Mathlib.Omega.{arith}
+use mathlib.Core.Path.{refl, ap, ap₂, sym, ◌∙◌}
+use lib.ListN.{take, replicate}
+use lib.Seq.{length-take-le}
+use borrow.Author.Rules.{rules}
+use Rattle.refusals.specs.Refusals.{answer}
+use Rattle.trace.specs.Acceptance.{accept_answer}
+use Rattle.judge.specs.Judge.{answer_of_judged}
+use Rattle.lines.specs.Lines.{accepted_lines}
+use Rattle.judge_trace.specs.Text.{lines_of}
+use Rattle.judge_trace.proofs.Answers.{judged_refused, judged_accepted}
+use Rattle.judge_trace.proofs.Lines.{stands_as, refusal_stands}
+use Rattle.judge_trace.proofs.text.put_judged.Goals as goal
+
+pub slice_bounds-verdicts-end : goal.slice_bounds-verdicts-end
+slice_bounds-verdicts-end c = sym (length-take-le c.args.n c.buffer-space.result (omega (arith, c.requires.1, c.buffer-space.ensures)))
+
+pub put_accepted-requires : goal.put_accepted-requires
+put_accepted-requires c = let counted = length-take-le c.args.n c.buffer-space.result (omega (arith, c.requires.1, c.buffer-space.ensures)) in
+    (c.requires.0, omega (arith, c.requires.1, c.judge.auto.1.1.0, counted))
+
+pub returns-in-Refused : goal.returns-in-Refused
+returns-in-Refused c = let s = c.args.s.now in
+    let out = c.args.out.now in
+    let counted = length-take-le c.args.n c.buffer-space.result (omega (arith, c.requires.1, c.buffer-space.ensures)) in
+    stands_as out _ (lines_of s (accept_answer s)) (judged_refused s (replicate 187 0) (take c.args.n c.buffer-space.result) refl (ap answer counted ∙ c.requires.2) _ _ (sym (ap answer_of_judged c.in-Refused.is) ∙ c.judge.ensures.0)) (refusal_stands out _ _ c.requires.0 c.put_refusal.ensures)
+
+pub returns-in-Accepted : goal.returns-in-Accepted
+returns-in-Accepted c = let s = c.args.s.now in
+    let after = c.judge.ensures in
+    let counted = length-take-le c.args.n c.buffer-space.result (omega (arith, c.requires.1, c.buffer-space.ensures)) in
+    stands_as c.args.out.now _ (lines_of s (accept_answer s)) (ap₂ accepted_lines after.1.0 after.1.1 ∙ judged_accepted s (replicate 187 0) (take c.args.n c.buffer-space.result) refl (ap answer counted ∙ c.requires.2) (sym (ap answer_of_judged c.in-Accepted.is) ∙ after.0)) c.put_accepted.ensures

@@ -1,0 +1,28 @@
+use native.Mathlib.Omega.{arith}
+use mathlib.Core.Path.{ap, sym, ◌∙◌}
+use borrow.Author.Rules.{rules}
+use Rattle.trace.specs.Sections.{answer_of_count}
+use Rattle.trace.proofs.Layouts.{reply_count_low}
+use Rattle.judge_trace.specs.Text.{program_text}
+use Rattle.judge_trace.proofs.Answers.{text_long_input, text_of_trace, walk_refused}
+use Rattle.judge_trace.proofs.Lines.{stands_as, refusal_stands}
+use Rattle.judge_trace.proofs.text.put_text.Goals as goal
+
+pub returns-then-s-gt65536 : goal.returns-then-s-gt65536
+returns-then-s-gt65536 c = let s = c.args.s.now in
+    let out = c.args.out.now in
+    stands_as out _ (program_text s) (text_long_input s (search rules)) (refusal_stands out 14 0 c.requires c.put_refusal.ensures)
+
+pub put_judged-requires : goal.put_judged-requires
+put_judged-requires c = let n = sym (ap answer_of_count c.in-Replies.is) ∙ c.reply_count.ensures in
+    let low = reply_count_low c.args.s.now _ n in
+    (c.requires, omega (arith, low, c.if-s-gt65536.false), n)
+
+pub returns-in-Refused : goal.returns-in-Refused
+returns-in-Refused c = let s = c.args.s.now in
+    let out = c.args.out.now in
+    stands_as out _ (program_text s) (walk_refused s _ _ (sym (ap answer_of_count c.in-Refused.is) ∙ c.reply_count.ensures) ∙ text_of_trace s c.if-s-gt65536.false) (refusal_stands out _ _ c.requires c.put_refusal-in-Refused.ensures)
+
+pub returns-in-Replies : goal.returns-in-Replies
+returns-in-Replies c = let s = c.args.s.now in
+    stands_as c.args.out.now _ (program_text s) (text_of_trace s c.if-s-gt65536.false) c.put_judged.ensures

@@ -1,0 +1,19 @@
+use Prim.Native.Nat.{◌-◌}
+use mathlib.Core.Path.{refl}
+use native.Mathlib.Omega.{arith}
+use borrow.Author.Rules.{rules}
+use Rattle.limits.specs.Limits.{setting_at}
+use Rattle.limits.proofs.RuleSets.{Checking, start, next, stop, end, refuses}
+use Rattle.limits.proofs.check_each.Goals as goal
+
+pub loop-i-init : goal.loop-i-init
+loop-i-init c = start refl
+
+pub returns-in_default : goal.returns-in_default
+returns-in_default c = refuses _ c.refuse.ensures (stop c.loop-i.invariant c.loop-i-test.true c.check_rule.ensures c.in_default.is)
+
+pub loop-i-preserved : goal.loop-i-preserved
+loop-i-preserved c = next c.loop-i.invariant c.loop-i-test.true c.check_rule.ensures c.in-Accepted.is
+
+pub returns : goal.returns
+returns c = end c.loop-i.invariant c.loop-i-test.false

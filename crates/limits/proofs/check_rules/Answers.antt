@@ -1,0 +1,18 @@
+use borrow.Author.Tests.{eq-eqb, ne_eqb}
+use borrow.Author.Rules.{rules}
+use Rattle.limits.specs.Limits.{rule_set_answer}
+use Rattle.rules.proofs.CellCount.{test_fails, test_holds}
+use Rattle.limits.proofs.RuleSets.{refuses}
+use Rattle.limits.proofs.check_rules.Goals as goal
+
+pub returns-then-not-is_cell_count : goal.returns-then-not-is_cell_count
+unfolding rule_set_answer
+returns-then-not-is_cell_count c = refuses _ c.refuse.ensures (rw (test_fails c.is_cell_count.ensures c.if-not-is_cell_count.true))
+
+pub returns-then-bytes-ne160 : goal.returns-then-bytes-ne160
+unfolding rule_set_answer
+returns-then-bytes-ne160 c = refuses _ c.refuse-then-bytes-ne160.ensures (rw (test_holds c.is_cell_count.ensures c.if-not-is_cell_count.false, ne_eqb _ 160 c.if-bytes-ne160.true))
+
+pub returns : goal.returns
+unfolding rule_set_answer
+returns c = rw (test_holds c.is_cell_count.ensures c.if-not-is_cell_count.false, eq-eqb _ 160 c.if-bytes-ne160.false) c.check_each.ensures

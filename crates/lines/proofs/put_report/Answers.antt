@@ -1,0 +1,7 @@
+use mathlib.Core.Path.{ap, ◌∙◌}
+use borrow.Author.Rules.{rules}
+use Rattle.bytes_le.specs.Writing.{put_at}
+use Rattle.lines.proofs.put_report.Goals as goal
+
+pub returns : goal.returns
+returns c = c.put_bytes.ensures ∙ ap (put_at c.args.buffer.now c.args.at) c.hex_line-text.ensures

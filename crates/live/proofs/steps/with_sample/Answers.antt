@@ -1,0 +1,18 @@
+use mathlib.Core.Path.{ap, ◌∙◌}
+use mir.Syntax.{w16}
+use mir.ValLaws.{to_z-of_z}
+use Rattle.live.specs.inner.Steps.{count_sample}
+use native.Mathlib.Omega.{arith}
+use Rattle.live.proofs.GoodStates.{parts, counted}
+use Rattle.live.proofs.Stepping.{sample_state_lem}
+use borrow.Author.Rules.{rules}
+use Rattle.live.proofs.steps.with_sample.Goals as goal
+
+pub count_sample-total-requires : goal.count_sample-total-requires
+count_sample-total-requires c = let t = counted c.args.state.totals (parts c.args.state c.requires.0).counts in
+    let h = c.requires.1 in
+    (omega arith, omega arith, h)
+
+pub returns : goal.returns
+returns c x e r = sample_state_lem c.args.state x c.seen-next.result c.count_sample-total.result e r c.seen-next.ensures
+    (c.count_sample-total.ensures ∙ ap (count_sample c.args.state.totals) (to_z-of_z w16 c.args.current c.ranges.current))

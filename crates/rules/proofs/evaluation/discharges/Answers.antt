@@ -1,0 +1,17 @@
+use Prim.Native.Nat.{◌<◌, ◌^◌}
+use mir.Syntax.{w32}
+use mir.Facts.{to_z-of_z, to_z_pos}
+use borrow.Author.Rules.{rules}
+use Rattle.rules.proofs.Signed.{cast_fits, cast_is, minus_is, minus_fits}
+use Rattle.rules.proofs.evaluation.discharges.Goals as goal
+
+pub overflow_cast-result : goal.overflow_cast-result
+overflow_cast-result c = cast_fits tt c.ranges.current
+
+pub overflow_sub-result : goal.overflow_sub-result
+overflow_sub-result c = let h : c.args.idle < 2 ^ 31 = search rules in
+    rw (to_z_pos w32 h, minus_is) (minus_fits _ h)
+
+pub returns : goal.returns
+returns c = let h : c.args.idle < 2 ^ 31 = search rules in
+    rw (to_z_pos w32 h, minus_is, to_z-of_z {w = w32} (minus_fits _ h), cast_is w32 tt c.ranges.current)

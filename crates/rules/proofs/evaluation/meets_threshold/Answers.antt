@@ -1,0 +1,16 @@
+use mir.Syntax.{w32, w64}
+use mir.Val.{SFits}
+use borrow.Author.Rules.{sfits_of, rules}
+use Rattle.rules.specs.Evaluation.{beyond, trips}
+use Rattle.rules.proofs.Signed.{tested, cast_fits}
+use Rattle.rules.proofs.evaluation.meets_threshold.Goals as goal
+
+pub overflow_cast-setting : goal.overflow_cast-setting
+overflow_cast-setting c = search (rules, cast_fits)
+
+pub returns : goal.returns
+unfolding trips
+returns c = let a = c.args in
+    let f : SFits w64 c.value_of-v.result = sfits_of c.value_of-v.type_inv in
+    let t : SFits w32 a.setting.threshold = search rules in
+    rw (c.and.ensures, c.qualifies-counts.ensures, tested (beyond a.row.side) tt f t c.value_of-v.ensures c.is_beyond-met.ensures)

@@ -1,0 +1,28 @@
+use Prim.Native.Nat.{ℕ, ◌-◌, ◌*◌, ◌+◌, ◌≤◌}
+use mathlib.Core.Path.{sym, ap, subst}
+use native.Mathlib.Omega.{arith}
+use borrow.Author.Rules.{rules}
+use Rattle.rules.specs.Evaluation.{top}
+use Rattle.states.specs.Records.{rule_words}
+use Rattle.states.proofs.RuleWords.{part}
+use Rattle.states.proofs.ValidWords.{Checked, checked_start, checked_next, checked_stop, checked_end}
+use Rattle.states.proofs.validity.valid_rule.Goals as goal
+
+pub loop-j-init : goal.loop-j-init
+loop-j-init c = checked_start _ _
+
+pub loop-j-preserved : goal.loop-j-preserved
+loop-j-preserved c = let a = c.args in
+    checked_next _ _ c.loop-j.found c.loop-j.j _ c.loop-j.invariant c.loop-j-test.true (sym (part a.words.now (5 * a.i) c.loop-j.j c.loop-j-test.true))
+    (c.shared_slice_known-in-loop-j-1.given (5 * a.i + c.loop-j.j)).fits c.ends_below.ensures c.if-ends_below.true
+
+pub returns-else-ends_below : goal.returns-else-ends_below
+returns-else-ends_below c = let a = c.args in
+    checked_stop _ _ (top a.setting.time) (ap (λ (m : ℕ). m + 1) c.top_for-end.ensures.0) c.loop-j.j _ c.loop-j-test.true
+    (sym (part a.words.now (5 * a.i) c.loop-j.j c.loop-j-test.true)) (c.shared_slice_known-in-loop-j-1.given (5 * a.i + c.loop-j.j)).fits
+    c.ends_below.ensures c.if-ends_below.false
+
+pub returns : goal.returns
+returns c = let a = c.args in
+    let top-is = c.top_for-end.ensures in
+    checked_end _ _ (top a.setting.time) (ap (λ (m : ℕ). m + 1) top-is.0) (subst (λ (m : ℕ). m ≤ 256) top-is.0 top-is.1) c.loop-j.found c.loop-j.j c.loop-j.invariant c.loop-j-test.false

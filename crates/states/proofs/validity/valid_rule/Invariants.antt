@@ -1,0 +1,15 @@
+use Prim.Native.Nat.{ℕ, ◌-◌, ◌*◌, ◌+◌, ◌≤◌}
+use mathlib.Core.Path.{sym, ap, subst}
+use native.Mathlib.Omega.{arith}
+use borrow.Author.Rules.{rules}
+use Rattle.rules.specs.Evaluation.{top}
+use Rattle.states.specs.Records.{rule_words}
+use Rattle.states.proofs.RuleWords.{part}
+use Rattle.states.proofs.ValidWords.{Checked, checked_start, checked_next, checked_stop, checked_end}
+use Rattle.states.proofs.validity.valid_rule.Given as goal
+
+abbrev pub invariant-loop-j : goal.invariant-loop-j
+invariant-loop-j l = Checked (rule_words l.words l.i) l.end l.found l.j
+
+abbrev pub decreases-loop-j : goal.decreases-loop-j
+decreases-loop-j l = 5 - l.j

@@ -1,0 +1,6 @@
+use Rattle.states.proofs.AtZero.{zero_words}
+use borrow.Author.Rules.{rules}
+use Rattle.states.proofs.words.at_zero.Goals as goal
+
+pub returns : goal.returns
+returns c = zero_words _ _ c.same.ensures

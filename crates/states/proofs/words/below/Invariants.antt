@@ -1,0 +1,12 @@
+use Prim.Native.Nat.{◌-◌}
+use native.Mathlib.Omega.{arith}
+use borrow.Author.Rules.{rules}
+use Rattle.states.specs.inner.Words.{below_word}
+use Rattle.states.proofs.FiveWords.{Changed, changed_start, changed_next, changed_end, below_bits}
+use Rattle.states.proofs.words.below.Given as goal
+
+abbrev pub invariant-loop-i : goal.invariant-loop-i
+invariant-loop-i l = Changed (below_word l.t) l.initial.w l.w l.i
+
+abbrev pub decreases-loop-i : goal.decreases-loop-i
+decreases-loop-i l = 5 - l.i

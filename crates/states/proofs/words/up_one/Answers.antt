@@ -1,0 +1,20 @@
+use Prim.Native.Nat.{ℕ, ◌-◌}
+use native.Mathlib.Omega.{arith}
+use borrow.Author.Rules.{rules}
+use lib.ListN.{get_or}
+use mir.Val.{Fits}
+use mir.Syntax.{w64}
+use Rattle.states.proofs.FiveWords.{UpTo, up_start, up_more, up_end}
+use Rattle.states.proofs.words.up_one.Goals as goal
+
+range : (c : goal.Start) (j : ℕ) → Fits w64 (get_or c.args.t1 j 0)
+range c j = search rules
+
+pub loop-i-init : goal.loop-i-init
+loop-i-init c = up_start c.args.t1 (search rules)
+
+pub loop-i-preserved : goal.loop-i-preserved
+loop-i-preserved c = up_more _ _ _ _ (λ j. (range c j).fits) c.loop-i-test.true c.loop-i.invariant
+
+pub returns : goal.returns
+returns c = up_end _ _ _ _ (λ j. (range c j).fits) c.loop-i-test.false c.loop-i.invariant

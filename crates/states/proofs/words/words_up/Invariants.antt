@@ -1,0 +1,14 @@
+use Prim.Native.Nat.{ℕ, ◌-◌, ◌≤◌}
+use mathlib.Core.Path.{◌≡◌, refl, subst}
+use native.Mathlib.Omega.{arith}
+use borrow.Author.Rules.{rules}
+use lib.ListN.{length}
+use Rattle.states.specs.inner.Words.{WordsUp}
+use Rattle.states.proofs.ShiftedWords.{words_up_start, words_up_next}
+use Rattle.states.proofs.words.words_up.Given as goal
+
+abbrev pub invariant-loop-i : goal.invariant-loop-i
+invariant-loop-i l = (l.i ≤ l.q) × (length l.w ≡ 5) × WordsUp l.initial.w l.i l.w
+
+abbrev pub decreases-loop-i : goal.decreases-loop-i
+decreases-loop-i l = l.q - l.i
