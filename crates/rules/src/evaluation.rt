@@ -47,6 +47,7 @@ pub fn discharges(idle: u16, current: i16) -> bool
     (current as i32) < -(idle as i32)
 }
 
+#[tactic(auto, unfolding(crate::specs::Quantities::qualified))]
 fn qualifies(idle: u16, quantity: Quantity, r: Readings) -> bool
     ensures { result ≡ qualified idle quantity r }
 {

@@ -1,6 +1,6 @@
 use mathlib.Core.Path.{ap, ◌∙◌}
 use lib.IntN.{pos}
-use mir.Syntax.{w64}
+use mir.Syntax.{w16, w64}
 use mir.Facts.{to_z_pos}
 use borrow.Author.Rules.{rules}
 use Rattle.rules.specs.Quantities.{value}
@@ -36,23 +36,23 @@ returns-in-SumOfCells c = rw c.in-SumOfCells.is (to_z_pos w64 (search rules))
 
 pub returns-in-Current : goal.returns-in-Current
 unfolding value
-returns-in-Current c = rw c.in-Current.is (cast_is w64 tt (search rules))
+returns-in-Current c = rw c.in-Current.is (cast_is {w = w16} w64 tt (search rules))
 
 pub returns-in-HighestTempCharging : goal.returns-in-HighestTempCharging
 unfolding value
-returns-in-HighestTempCharging c = rw c.in-HighestTempCharging.is (cast_is w64 tt (search rules))
+returns-in-HighestTempCharging c = rw c.in-HighestTempCharging.is (cast_is {w = w16} w64 tt (search rules))
 
 pub returns-in-HighestTempDischarging : goal.returns-in-HighestTempDischarging
 unfolding value
-returns-in-HighestTempDischarging c = rw c.in-HighestTempDischarging.is (cast_is w64 tt (search rules))
+returns-in-HighestTempDischarging c = rw c.in-HighestTempDischarging.is (cast_is {w = w16} w64 tt (search rules))
 
 pub returns-in-Board : goal.returns-in-Board
 unfolding value
-returns-in-Board c = rw c.in-Board.is (cast_is w64 tt (search rules))
+returns-in-Board c = rw c.in-Board.is (cast_is {w = w16} w64 tt (search rules))
 
 pub returns-in-LowestTempDischarging : goal.returns-in-LowestTempDischarging
 unfolding value
-returns-in-LowestTempDischarging c = rw c.in-LowestTempDischarging.is (cast_is w64 tt (search rules))
+returns-in-LowestTempDischarging c = rw c.in-LowestTempDischarging.is (cast_is {w = w16} w64 tt (search rules))
 
 pub returns-in-CellDifference : goal.returns-in-CellDifference
 unfolding value
