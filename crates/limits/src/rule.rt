@@ -6,6 +6,7 @@ ghost use Rattle.limits.specs.Limits.{is_zero, within, limits};
 
 use rules::{Quantity, Row, Side, and};
 
+#[tactic(auto, unfolding(rules::specs::Quantities::least))]
 fn least_of(quantity: Quantity) -> i32
     ensures { result ≡ least quantity }
 {
@@ -28,6 +29,7 @@ fn most_sum(cells: u8) -> u32
     65535 * (cells as u32)
 }
 
+#[tactic(auto, unfolding(rules::specs::Quantities::most))]
 fn most_of(quantity: Quantity, cells: u8) -> i32
     ensures { result ≡ most quantity cells }
 {

@@ -19,7 +19,7 @@ loop-j-init c = laying_start (pos 0) 64 _ _ refl
 pub loop-j-preserved : goal.loop-j-preserved
 loop-j-preserved c = let r = row_of _ (c.loop-j.j % 16) _ c.all_rows-table.ensures (omega arith) in
     laying_next (pos 0) 64 _ _ c.loop-j.invariant c.loop-j-test.true
-    (told {w = w32} (search c.test_at.type_inv) (c.test_at.ensures ∙ ap (λ (w : Row). test_at (c.loop-j.j / 16) w (setting_of c.args.t1.of (c.loop-j.j % 16))) r))
+    (told {w = w32} (search c.test_at.type_inv) (c.test_at.ensures ∙ ap (λ (w : Row). test_at (c.loop-j.j / 16) w (setting_of c.args.settings.of (c.loop-j.j % 16))) r))
 
 pub returns : goal.returns
 unfolding tests_of

@@ -13,7 +13,7 @@ loop-i-init c = start _ _
 
 pub loop-i-preserved : goal.loop-i-preserved
 loop-i-preserved c = let h = c.loop-i-test.true in
-    let sixteen : length c.args.t1.of ≡ 16 = search (rules, long) in
+    let sixteen : length c.args.flags.of ≡ 16 = search (rules, long) in
     next _ c.loop-i.invariant h sixteen (row_of _ _ _ c.all_rows-table.ensures (omega (arith, c.loop-i.invariant.within))) c.drives.ensures c.with_rule-found.ensures
 
 pub returns : goal.returns

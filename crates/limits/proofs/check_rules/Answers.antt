@@ -7,12 +7,16 @@ use Rattle.limits.proofs.check_rules.Goals as goal
 
 pub returns-then-not-is_cell_count : goal.returns-then-not-is_cell_count
 unfolding rule_set_answer
-returns-then-not-is_cell_count c = refuses _ c.refuse.ensures (rw (test_fails c.is_cell_count.ensures c.if-not-is_cell_count.true))
+returns-then-not-is_cell_count c = let p = refuses _ c.refuse.ensures (rw (test_fails c.is_cell_count.ensures c.if-not-is_cell_count.true)) in record { answer = p.0; settings = p.1 }
 
 pub returns-then-bytes-ne160 : goal.returns-then-bytes-ne160
 unfolding rule_set_answer
-returns-then-bytes-ne160 c = refuses _ c.refuse-then-bytes-ne160.ensures (rw (test_holds c.is_cell_count.ensures c.if-not-is_cell_count.false, ne_eqb _ 160 c.if-bytes-ne160.true))
+returns-then-bytes-ne160 c = let p = refuses _ c.refuse-then-bytes-ne160.ensures (rw (test_holds c.is_cell_count.ensures c.if-not-is_cell_count.false, ne_eqb _ 160 c.if-bytes-ne160.true)) in record { answer = p.0; settings = p.1 }
 
-pub returns : goal.returns
+pub returns-clause-answer : goal.returns-clause-answer
 unfolding rule_set_answer
-returns c = rw (test_holds c.is_cell_count.ensures c.if-not-is_cell_count.false, eq-eqb _ 160 c.if-bytes-ne160.false) c.check_each.ensures
+returns-clause-answer c = rw (test_holds c.is_cell_count.ensures c.if-not-is_cell_count.false, eq-eqb _ 160 c.if-bytes-ne160.false) c.check_each.ensures.answer
+
+pub returns-clause-settings : goal.returns-clause-settings
+unfolding rule_set_answer
+returns-clause-settings c = rw (test_holds c.is_cell_count.ensures c.if-not-is_cell_count.false, eq-eqb _ 160 c.if-bytes-ne160.false) c.check_each.ensures.settings

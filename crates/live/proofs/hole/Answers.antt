@@ -8,4 +8,4 @@ pub take_hole-requires : goal.take_hole-requires
 take_hole-requires c = sym c.is_good.ensures ∙ c.if-is_good.true
 
 pub returns : goal.returns
-returns c = refused_call (with_hole _ _) c.refuse.ensures (no_hole _ _ (sym c.is_good.ensures ∙ c.if-is_good.false))
+returns c = let p = refused_call (with_hole _ _) c.refuse.ensures (no_hole _ _ (sym c.is_good.ensures ∙ c.if-is_good.false)) in record { answer = p.0; state = p.1 }

@@ -8,7 +8,7 @@ use borrow.Author.Rules.{rules}
 use Rattle.pec.proofs.seal.Goals as goal
 
 pub returns-then-buffer-ne6 : goal.returns-then-buffer-ne6
-returns-then-buffer-ne6 c = (seal_refused c.args.buffer.now c.if-buffer-ne6.true, seal_kept c.args.buffer.now c.if-buffer-ne6.true c.args.command c.args.word)
+returns-then-buffer-ne6 c = record { answer = seal_refused c.args.buffer.now c.if-buffer-ne6.true; bytes = seal_kept c.args.buffer.now c.if-buffer-ne6.true c.args.command c.args.word }
 
 pub bounds-buffer-4 : goal.bounds-buffer-4
 bounds-buffer-4 c = simp length-set (omega arith)
@@ -24,5 +24,4 @@ bounds-buffer-5 c = simp length-set (omega arith)
 
 pub returns : goal.returns
 returns c = let six = c.if-buffer-ne6.false in
-    let a = c.args in
-    (seal_done a.buffer.now six, stored a.buffer.now a.command a.word c.pec-code.result six c.pec-code.ensures)
+    let a = c.args in record { answer = seal_done a.buffer.now six; bytes = stored a.buffer.now a.command a.word c.pec-code.result six c.pec-code.ensures }

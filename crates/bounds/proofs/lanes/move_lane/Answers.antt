@@ -10,6 +10,6 @@ use Rattle.bounds.proofs.lanes.move_lane.Goals as goal
 )
 
 pub returns : goal.returns
-returns c = (
+returns c = let p = (
   ap (set c.args.states.now c.args.j) (c.chosen-next.ensures ∙ ap (λ (n : ℕ). cond c.args.go n (get_or c.args.states.now c.args.j 0)) c.stepped.ensures),
-  c.has_risen.ensures ∙ ap (rises c.args.top _) (sym (get_or-set_same c.args.states.now c.args.j c.chosen-next.result 0 c.requires)),
+  c.has_risen.ensures ∙ ap (rises c.args.top _) (sym (get_or-set_same c.args.states.now c.args.j c.chosen-next.result 0 c.requires)), in record { states = p.0; rises = p.1 }

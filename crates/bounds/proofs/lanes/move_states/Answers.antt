@@ -17,4 +17,4 @@ pub shape_of-states : goal.shape_of-states
 shape_of-states c = c.loop-i.invariant.pairing.long ∙ sym c.requires
 
 pub returns : goal.returns
-returns c = moving_end _ _ _ _ c.loop-i.invariant c.loop-i-test.false
+returns c = let p = moving_end _ _ _ _ c.loop-i.invariant c.loop-i-test.false in record { states = p.0; rises = p.1 }

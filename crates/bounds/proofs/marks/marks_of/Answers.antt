@@ -19,9 +19,9 @@ loop-i-init c = marking_start _ _ _ _ refl
 pub loop-i-preserved : goal.loop-i-preserved
 loop-i-preserved c = let up : SFits w32 (get_or c.args.tests.now (c.args.base + c.loop-i.i) (pos 0)) = search rules in
     let down : SFits w32 (get_or c.args.tests.now (48 + c.loop-i.i) (pos 0)) = search rules in
-    let v : SFits w32 (get_or c.args.t1 c.loop-i.i (pos 0)) = search rules in
-    let a = c.is_above.ensures in
-    let b = c.is_above-in-loop-i.ensures in
+    let v : SFits w32 (get_or c.args.values c.loop-i.i (pos 0)) = search rules in
+    let a = (c.is_above.ensures.above, c.is_above.ensures.least, c.is_above.ensures.greatest) in
+    let b = (c.is_above-in-loop-i.ensures.above, c.is_above-in-loop-i.ensures.least, c.is_above-in-loop-i.ensures.greatest) in
     marking_next _ _ _ _ _ _ c.loop-i.invariant c.loop-i-test.true
     (a.0 ∙ ap₂ (λ (x y : ℤ). mark (lt_z x y)) (to_z-of_z up) (to_z-of_z v))
     (ap (lt_z greatest32) (sym (to_z-of_z v)) ∙ a.1.1)
@@ -30,5 +30,4 @@ loop-i-preserved c = let up : SFits w32 (get_or c.args.tests.now (c.args.base + 
 
 pub returns : goal.returns
 returns c = let m = c.loop-i.invariant in
-    let h = c.loop-i-test.false in
-    (marking_end _ _ _ _ m h, ((λ i l. m.least i (omega arith)), λ i l. m.greatest i (omega arith)))
+    let h = c.loop-i-test.false in let p = (marking_end _ _ _ _ m h, ((λ i l. m.least i (omega arith)), λ i l. m.greatest i (omega arith))) in record { marks = p.0; least = p.1; greatest = p.2 }

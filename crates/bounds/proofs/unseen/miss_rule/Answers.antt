@@ -12,7 +12,7 @@ bounds-states-i-4 c = omega (arith, length-set c.args.states.now c.args.i c.leas
 
 pub returns : goal.returns
 returns c = let n = c.evaluations_in-n.ensures in
-    let g = get_or c.args.states.now (16 + c.args.i) 0 in (
+    let g = get_or c.args.states.now (16 + c.args.i) 0 in let p = (
       ap₂ (λ (x y : ℕ). set (set c.args.states.now c.args.i x) (16 + c.args.i) y)
           (c.least_missed.ensures ∙ ap (λ (k : ℕ). least_missed c.args.top c.args.row.recovers k (get_or c.args.states.now c.args.i 0)) n)
           (c.greatest_missed.ensures ∙ ap (λ (k : ℕ). greatest_missed c.args.top k g) n),
@@ -20,4 +20,4 @@ returns c = let n = c.evaluations_in-n.ensures in
           (c.note.ensures
           ∙ ap (λ (t : ℕ). noted t (get_or c.args.firsts.now (16 + c.args.i) 0))
           (c.top_tick.ensures ∙ ap (λ (k : ℕ). top_tick c.args.row c.args.top c.args.first k g) n)),
-    )
+    ) in record { states = p.0; firsts = p.1 }

@@ -2,4 +2,4 @@ use borrow.Author.Rules.{rules}
 use Rattle.judge.proofs.ending.totals_of.Goals as goal
 
 pub returns : goal.returns
-returns c = rw (c.count_unseen-unseen.ensures, c.sum_charge-charge.ensures.0, c.sum_charge-charge.ensures.1)
+returns c = rw (c.count_unseen-unseen.ensures, c.sum_charge-charge.ensures.inwards, c.sum_charge-charge.ensures.outwards)

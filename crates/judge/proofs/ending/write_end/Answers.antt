@@ -8,5 +8,5 @@ use Rattle.judge.proofs.ending.write_end.Goals as goal
 
 pub returns : goal.returns
 returns c = let a = c.args in
-    c.write_report.ensures.1
+    c.write_report.ensures.bytes
     ∙ ap₂ (λ (fs : List RuleFlags) (ts : List FirstTicks). reported fs ts a.totals a.report.now) c.flags_in-flags.ensures c.join_firsts-ticks.ensures

@@ -35,5 +35,4 @@ judge_parts-requires c = let pre = c.requires in
 
 pub returns : goal.returns
 returns c = let pre = c.requires in
-    let e = c.judge_parts.ensures in
-    (e.0 ∙ report_is _ _ _ _ pre.0 (λ i. omega (arith, c.shared_slice_known-1.given i)) _ pre.1, e.1 ∙ verdicts_are _ _ _ _ pre.0)
+    let e = (c.judge_parts.ensures.report, c.judge_parts.ensures.verdicts) in record { report = e.0 ∙ report_is _ _ _ _ pre.0 (λ i. omega (arith, c.shared_slice_known-1.given i)) _ pre.1; verdicts = e.1 ∙ verdicts_are _ _ _ _ pre.0 }

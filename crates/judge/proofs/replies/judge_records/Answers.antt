@@ -67,4 +67,4 @@ pub shape_of-verdicts : goal.shape_of-verdicts
 shape_of-verdicts c = c.loop-j.invariant.count ∙ sym c.requires.3.1
 
 pub returns : goal.returns
-returns c = (known_there c.advance.ensures, judging_end c.loop-j.invariant c.loop-j-test.false)
+returns c = record { known = known_there c.advance.ensures; verdicts = judging_end c.loop-j.invariant c.loop-j-test.false }

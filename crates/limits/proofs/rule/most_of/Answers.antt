@@ -7,12 +7,6 @@ use Rattle.rules.specs.Quantities.{most}
 use Rattle.rules.proofs.Quantities.{most_volts, most_signed}
 use Rattle.limits.proofs.rule.most_of.Goals as goal
 
-pub returns-in-HighestCell : goal.returns-in-HighestCell
-returns-in-HighestCell c = most_volts _ _ c.in-HighestCell.keys1
-
 pub returns-in-SumOfCells : goal.returns-in-SumOfCells
 unfolding most
 returns-in-SumOfCells c = rw c.in-SumOfCells.is (to_z_pos w32 (search rules) ∙ ap pos c.most_sum.ensures)
-
-pub returns-in-Current : goal.returns-in-Current
-returns-in-Current c = most_signed _ _ c.in-HighestCell.keys3

@@ -12,24 +12,16 @@ use Rattle.limits.proofs.RuleSets as laws
 use Rattle.limits.proofs.RuleSets.{Passed, numbered, passed_start, passed_next, passed_stop, passed_end, listed_answer}
 use Rattle.limits.proofs.settings.check_settings.Goals as goal
 
--- The rule that is checked is within its limits, or not.
-held : (c : goal.After-accepts_setting) {b : Bool} → c.accepts_setting.result ≡ b
-    → limits c.args.cells (row_at c.loop-i.i) (numbered c.args.t2.of c.loop-i.i) ≡ b
-held c {b} e =
-    ap (λ (r : Row). limits c.args.cells r (numbered c.args.t2.of c.loop-i.i)) (sym (row_of _ _ _ c.all_rows-table.ensures c.loop-i-test.true))
-    ∙ sym c.accepts_setting.ensures ∙ e
-
-long : (c : goal.Start) → length c.args.t2.of ≡ 16
-long c = search (rules, laws.long)
-
 pub loop-i-init : goal.loop-i-init
 loop-i-init c = passed_start
 
 pub loop-i-preserved : goal.loop-i-preserved
-loop-i-preserved c = passed_next c.loop-i.invariant c.loop-i-test.true (held c c.if-accepts_setting.true)
+loop-i-preserved c = passed_next c.loop-i.invariant c.loop-i-test.true (ap (λ (r : Row). limits c.args.cells r (numbered c.args.settings.of c.loop-i.i)) (sym (row_of _ _ _ c.all_rows-table.ensures c.loop-i-test.true))
+    ∙ sym c.accepts_setting.ensures ∙ c.if-accepts_setting.true)
 
 pub returns-else-accepts_setting : goal.returns-else-accepts_setting
-returns-else-accepts_setting c = sym (sym (listed_answer c.args.cells 16 _ (long c)) ∙ passed_stop c.loop-i.invariant c.loop-i-test.true (held c c.if-accepts_setting.false))
+returns-else-accepts_setting c = sym (sym (listed_answer c.args.cells 16 _ (search (rules, laws.long))) ∙ passed_stop c.loop-i.invariant c.loop-i-test.true (ap (λ (r : Row). limits c.args.cells r (numbered c.args.settings.of c.loop-i.i)) (sym (row_of _ _ _ c.all_rows-table.ensures c.loop-i-test.true))
+    ∙ sym c.accepts_setting.ensures ∙ c.if-accepts_setting.false))
 
 pub returns : goal.returns
-returns c = sym (sym (listed_answer c.args.cells 16 _ (long c)) ∙ passed_end c.loop-i.invariant c.loop-i-test.false)
+returns c = sym (sym (listed_answer c.args.cells 16 _ (search (rules, laws.long))) ∙ passed_end c.loop-i.invariant c.loop-i-test.false)

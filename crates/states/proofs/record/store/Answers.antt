@@ -5,7 +5,7 @@ use Rattle.states.proofs.RuleWords.{Storing, storing_start, storing_next, storin
 use Rattle.states.proofs.record.store.Goals as goal
 
 pub loop-j-init : goal.loop-j-init
-loop-j-init c = storing_start c.args.words.now c.args.i c.args.t3 c.requires.0 c.requires.1
+loop-j-init c = storing_start c.args.words.now c.args.i c.args.w c.requires.0 c.requires.1
 
 pub loop-j-preserved : goal.loop-j-preserved
 loop-j-preserved c = let a = c.args in

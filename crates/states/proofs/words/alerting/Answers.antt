@@ -7,7 +7,7 @@ use borrow.Author.Rules.{rules}
 use Rattle.states.proofs.words.alerting.Goals as goal
 
 pub overflow_mul-w : goal.overflow_mul-w
-overflow_mul-w c = let f : Fits w64 (get_or c.args.t1 0 0) = search rules in omega arith
+overflow_mul-w c = let f : Fits w64 (get_or c.args.w 0 0) = search rules in omega arith
 
 pub returns : goal.returns
-returns c = alerting_set c.args.t1 (search rules)
+returns c = alerting_set c.args.w (search rules)

@@ -3,4 +3,4 @@ use borrow.Author.Rules.{rules}
 use Rattle.states.proofs.words.same.Goals as goal
 
 pub returns : goal.returns
-returns c = same_made c.args.t1 c.args.t2 (search rules) (search rules)
+returns c = same_made c.args.v c.args.w (search rules) (search rules)

@@ -9,7 +9,7 @@ use mir.Syntax.{w64}
 use Rattle.states.proofs.FiveWords.{some_none, some_word}
 use Rattle.states.proofs.words.some.Goals as goal
 
-range : (c : goal.Start) (j : ℕ) → Fits w64 (get_or c.args.t1 j 0)
+range : (c : goal.Start) (j : ℕ) → Fits w64 (get_or c.args.w j 0)
 range c j = search rules
 
 pub loop-i-init : goal.loop-i-init

@@ -7,11 +7,11 @@ use mir.Syntax.{w64}
 use Rattle.states.proofs.FiveWords.{UpTo, up_start, up_more, up_end}
 use Rattle.states.proofs.words.up_one.Goals as goal
 
-range : (c : goal.Start) (j : ℕ) → Fits w64 (get_or c.args.t1 j 0)
+range : (c : goal.Start) (j : ℕ) → Fits w64 (get_or c.args.w j 0)
 range c j = search rules
 
 pub loop-i-init : goal.loop-i-init
-loop-i-init c = up_start c.args.t1 (search rules)
+loop-i-init c = up_start c.args.w (search rules)
 
 pub loop-i-preserved : goal.loop-i-preserved
 loop-i-preserved c = up_more _ _ _ _ (λ j. (range c j).fits) c.loop-i-test.true c.loop-i.invariant

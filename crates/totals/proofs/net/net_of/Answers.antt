@@ -26,8 +26,8 @@ slice_bounds-sum_charge-start c = (parts _ _ c.requires).samples
 
 pub bounds-requires : goal.bounds-requires
 bounds-requires c = let t = totals c in
-    (omega (arith, c.sum_charge-charge.ensures.0, t.small_in), omega (arith, c.sum_charge-charge.ensures.1, t.small_out), rw c.count_unseen-unseen.ensures t.small_unseen)
+    (omega (arith, c.sum_charge-charge.ensures.inwards, t.small_in), omega (arith, c.sum_charge-charge.ensures.outwards, t.small_out), rw c.count_unseen-unseen.ensures t.small_unseen)
 
 pub returns : goal.returns
-returns c = ap answer_of_net (c.bounds.ensures ∙ between_same c.sum_charge-charge.ensures.0 c.sum_charge-charge.ensures.1 c.count_unseen-unseen.ensures)
+returns c = ap answer_of_net (c.bounds.ensures ∙ between_same c.sum_charge-charge.ensures.inwards c.sum_charge-charge.ensures.outwards c.count_unseen-unseen.ensures)
     ∙ (totals c).net
