@@ -8,10 +8,10 @@ use Rattle.bounds.proofs.MissingRuns.{Missing, missing_start, missing_next, miss
 use Rattle.bounds.proofs.miss.Goals as goal
 
 pub returns-then-states-ne32 : goal.returns-then-states-ne32
-returns-then-states-ne32 c = let p = rw (ne_eqb _ _ c.if-states-ne32.true) (refl, refl) in record { states = p.0; firsts = p.1 }
+returns-then-states-ne32 c = record { states = rw (ne_eqb _ _ c.if-states-ne32.true); firsts = rw (ne_eqb _ _ c.if-states-ne32.true) }
 
 pub returns-then-firsts-ne32 : goal.returns-then-firsts-ne32
-returns-then-firsts-ne32 c = let p = rw (eq-eqb _ _ c.if-states-ne32.false, ne_eqb _ _ c.if-firsts-ne32.true) (refl, refl) in record { states = p.0; firsts = p.1 }
+returns-then-firsts-ne32 c = record { states = rw (eq-eqb _ _ c.if-states-ne32.false, ne_eqb _ _ c.if-firsts-ne32.true); firsts = rw (eq-eqb _ _ c.if-states-ne32.false, ne_eqb _ _ c.if-firsts-ne32.true) }
 
 pub loop-i-init : goal.loop-i-init
 loop-i-init c = missing_start _ _ _ _ _ c.if-states-ne32.false c.if-firsts-ne32.false
@@ -27,4 +27,4 @@ pub shape_of-firsts : goal.shape_of-firsts
 shape_of-firsts c = c.loop-i.invariant.firsts.long ∙ sym c.if-firsts-ne32.false
 
 pub returns : goal.returns
-returns c = let p = rw (eq-eqb _ _ c.if-states-ne32.false, eq-eqb _ _ c.if-firsts-ne32.false) (missing_end _ _ _ _ _ c.loop-i.invariant c.loop-i-test.false) in record { states = p.0; firsts = p.1 }
+returns c = record { states = rw (eq-eqb _ _ c.if-states-ne32.false, eq-eqb _ _ c.if-firsts-ne32.false) (missing_end _ _ _ _ _ c.loop-i.invariant c.loop-i-test.false).0; firsts = rw (eq-eqb _ _ c.if-states-ne32.false, eq-eqb _ _ c.if-firsts-ne32.false) (missing_end _ _ _ _ _ c.loop-i.invariant c.loop-i-test.false).1 }

@@ -7,25 +7,37 @@ use borrow.Author.Rules.{rules}
 use Rattle.bounds.proofs.see.Goals as goal
 
 pub returns-then-r-gt2147483647 : goal.returns-then-r-gt2147483647
-returns-then-r-gt2147483647 c = let p = rw (lt-leb _ _ c.if-r-gt2147483647.true) (refl, (refl, λ t. absurd t)) in record { states = p.0; firsts = p.1; within = p.2 }
+returns-then-r-gt2147483647 c = record { states = rw (lt-leb _ _ c.if-r-gt2147483647.true); firsts = rw (lt-leb _ _ c.if-r-gt2147483647.true); within = rw (lt-leb _ _ c.if-r-gt2147483647.true) (λ t. absurd t) }
 
 pub returns-then-states-ne32 : goal.returns-then-states-ne32
-returns-then-states-ne32 c = let p = rw (le-leb _ _ c.if-r-gt2147483647.false, ne_eqb _ _ c.if-states-ne32.true) (refl, (refl, λ t. absurd t)) in record { states = p.0; firsts = p.1; within = p.2 }
+returns-then-states-ne32 c = record { states = rw (le-leb _ _ c.if-r-gt2147483647.false, ne_eqb _ _ c.if-states-ne32.true); firsts = rw (le-leb _ _ c.if-r-gt2147483647.false, ne_eqb _ _ c.if-states-ne32.true); within = rw (le-leb _ _ c.if-r-gt2147483647.false, ne_eqb _ _ c.if-states-ne32.true) (λ t. absurd t) }
 
 pub returns-then-firsts-ne32 : goal.returns-then-firsts-ne32
-returns-then-firsts-ne32 c = let p = rw (le-leb _ _ c.if-r-gt2147483647.false, eq-eqb _ _ c.if-states-ne32.false, ne_eqb _ _ c.if-firsts-ne32.true) (refl, (refl, λ t. absurd t)) in record { states = p.0; firsts = p.1; within = p.2 }
+returns-then-firsts-ne32 c = record { states = rw (le-leb _ _ c.if-r-gt2147483647.false, eq-eqb _ _ c.if-states-ne32.false, ne_eqb _ _ c.if-firsts-ne32.true); firsts = rw (le-leb _ _ c.if-r-gt2147483647.false, eq-eqb _ _ c.if-states-ne32.false, ne_eqb _ _ c.if-firsts-ne32.true); within = rw (le-leb _ _ c.if-r-gt2147483647.false, eq-eqb _ _ c.if-states-ne32.false, ne_eqb _ _ c.if-firsts-ne32.true) (λ t. absurd t) }
 
 pub overflow_mul-base : goal.overflow_mul-base
 overflow_mul-base c = omega (arith, c.flow_of-base.ensures.1)
 
 pub returns-then-move_states : goal.returns-then-move_states
-returns-then-move_states c = let p = rw (le-leb _ _ c.if-r-gt2147483647.false, eq-eqb _ _ c.if-states-ne32.false, eq-eqb _ _ c.if-firsts-ne32.false) (
+returns-then-move_states c = record { states = rw (le-leb _ _ c.if-r-gt2147483647.false, eq-eqb _ _ c.if-states-ne32.false, eq-eqb _ _ c.if-firsts-ne32.false) (
   c.move_states.ensures.states ∙ states_seen_lem _ _ _ _ _ _ _ _ _ _ c.values_of-values.ensures (ap (16 *◌) c.flow_of-base.ensures.0) c.marks_of-marks.ensures.marks refl,
   (firsts_noted_lem _ _ _ _ _ c.move_states.ensures.rises c.if-move_states.true c.note_states.ensures, λ t. within_32 _ _ c.values_of-values.ensures c.marks_of-marks.ensures.1.0 c.marks_of-marks.ensures.1.1),
-) in record { states = p.0; firsts = p.1; within = p.2 }
+).0; firsts = rw (le-leb _ _ c.if-r-gt2147483647.false, eq-eqb _ _ c.if-states-ne32.false, eq-eqb _ _ c.if-firsts-ne32.false) (
+  c.move_states.ensures.states ∙ states_seen_lem _ _ _ _ _ _ _ _ _ _ c.values_of-values.ensures (ap (16 *◌) c.flow_of-base.ensures.0) c.marks_of-marks.ensures.marks refl,
+  (firsts_noted_lem _ _ _ _ _ c.move_states.ensures.rises c.if-move_states.true c.note_states.ensures, λ t. within_32 _ _ c.values_of-values.ensures c.marks_of-marks.ensures.1.0 c.marks_of-marks.ensures.1.1),
+).1.0; within = rw (le-leb _ _ c.if-r-gt2147483647.false, eq-eqb _ _ c.if-states-ne32.false, eq-eqb _ _ c.if-firsts-ne32.false) (
+  c.move_states.ensures.states ∙ states_seen_lem _ _ _ _ _ _ _ _ _ _ c.values_of-values.ensures (ap (16 *◌) c.flow_of-base.ensures.0) c.marks_of-marks.ensures.marks refl,
+  (firsts_noted_lem _ _ _ _ _ c.move_states.ensures.rises c.if-move_states.true c.note_states.ensures, λ t. within_32 _ _ c.values_of-values.ensures c.marks_of-marks.ensures.1.0 c.marks_of-marks.ensures.1.1),
+).1.1 }
 
 pub returns-else-move_states : goal.returns-else-move_states
-returns-else-move_states c = let p = rw (le-leb _ _ c.if-r-gt2147483647.false, eq-eqb _ _ c.if-states-ne32.false, eq-eqb _ _ c.if-firsts-ne32.false) (
+returns-else-move_states c = record { states = rw (le-leb _ _ c.if-r-gt2147483647.false, eq-eqb _ _ c.if-states-ne32.false, eq-eqb _ _ c.if-firsts-ne32.false) (
   c.move_states.ensures.states ∙ states_seen_lem _ _ _ _ _ _ _ _ _ _ c.values_of-values.ensures (ap (16 *◌) c.flow_of-base.ensures.0) c.marks_of-marks.ensures.marks refl,
   (firsts_kept _ _ _ _ _ c.move_states.ensures.rises c.if-move_states.false, λ t. within_32 _ _ c.values_of-values.ensures c.marks_of-marks.ensures.1.0 c.marks_of-marks.ensures.1.1),
-) in record { states = p.0; firsts = p.1; within = p.2 }
+).0; firsts = rw (le-leb _ _ c.if-r-gt2147483647.false, eq-eqb _ _ c.if-states-ne32.false, eq-eqb _ _ c.if-firsts-ne32.false) (
+  c.move_states.ensures.states ∙ states_seen_lem _ _ _ _ _ _ _ _ _ _ c.values_of-values.ensures (ap (16 *◌) c.flow_of-base.ensures.0) c.marks_of-marks.ensures.marks refl,
+  (firsts_kept _ _ _ _ _ c.move_states.ensures.rises c.if-move_states.false, λ t. within_32 _ _ c.values_of-values.ensures c.marks_of-marks.ensures.1.0 c.marks_of-marks.ensures.1.1),
+).1.0; within = rw (le-leb _ _ c.if-r-gt2147483647.false, eq-eqb _ _ c.if-states-ne32.false, eq-eqb _ _ c.if-firsts-ne32.false) (
+  c.move_states.ensures.states ∙ states_seen_lem _ _ _ _ _ _ _ _ _ _ c.values_of-values.ensures (ap (16 *◌) c.flow_of-base.ensures.0) c.marks_of-marks.ensures.marks refl,
+  (firsts_kept _ _ _ _ _ c.move_states.ensures.rises c.if-move_states.false, λ t. within_32 _ _ c.values_of-values.ensures c.marks_of-marks.ensures.1.0 c.marks_of-marks.ensures.1.1),
+).1.1 }

@@ -7,9 +7,8 @@ use Prim.Native.Nat.{ℕ}
 use borrow.Author.Rules.{rules}
 use Rattle.bounds.proofs.lanes.move_lane.Goals as goal
 
-)
-
 pub returns : goal.returns
-returns c = let p = (
-  ap (set c.args.states.now c.args.j) (c.chosen-next.ensures ∙ ap (λ (n : ℕ). cond c.args.go n (get_or c.args.states.now c.args.j 0)) c.stepped.ensures),
-  c.has_risen.ensures ∙ ap (rises c.args.top _) (sym (get_or-set_same c.args.states.now c.args.j c.chosen-next.result 0 c.requires)), in record { states = p.0; rises = p.1 }
+returns c = record {
+  states = ap (set c.args.states.now c.args.j) (c.chosen-next.ensures ∙ ap (λ (n : ℕ). cond c.args.go n (get_or c.args.states.now c.args.j 0)) c.stepped.ensures);
+  rises = c.has_risen.ensures ∙ ap (rises c.args.top _) (sym (get_or-set_same c.args.states.now c.args.j c.chosen-next.result 0 c.requires));
+}

@@ -5,4 +5,4 @@ use borrow.Author.Rules.{rules}
 use Rattle.bounds.proofs.marks.is_above.Goals as goal
 
 pub returns : goal.returns
-returns c = let p = (rw (to_z-of_z {w = w32} c.ranges.limit, to_z-of_z {w = w32} c.ranges.v) at c.mark_of.ensures, (none_below _ c.ranges.limit, none_above _ c.ranges.v)) in record { above = p.0; least = p.1; greatest = p.2 }
+returns c = record { above = rw (to_z-of_z {w = w32} c.ranges.limit, to_z-of_z {w = w32} c.ranges.v) at c.mark_of.ensures; least = none_below _ c.ranges.limit; greatest = none_above _ c.ranges.v }

@@ -30,4 +30,4 @@ loop-i-preserved c = let up : SFits w32 (get_or c.args.tests.now (c.args.base + 
 
 pub returns : goal.returns
 returns c = let m = c.loop-i.invariant in
-    let h = c.loop-i-test.false in let p = (marking_end _ _ _ _ m h, ((λ i l. m.least i (omega arith)), λ i l. m.greatest i (omega arith))) in record { marks = p.0; least = p.1; greatest = p.2 }
+    let h = c.loop-i-test.false in record { marks = marking_end _ _ _ _ m h; least = (λ i l. m.least i (omega arith)); greatest = λ i l. m.greatest i (omega arith) }
