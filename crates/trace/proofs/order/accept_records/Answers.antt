@@ -11,10 +11,6 @@ use Rattle.trace.proofs.TickBounds.{gap_small, ticks_small}
 use borrow.Author.Rules.{rules}
 use Rattle.trace.proofs.order.accept_records.Goals as goal
 
--- The holes passed their check.
-holes : (c : goal.In_default) → holes_answer (holes_in (holes_part c.args.s.now c.args.l)) 0 0 ≡ answer tt
-holes c = sym c.check_holes.ensures ∙ ap answer_of_checked c.in_default.is
-
 pub slice_bounds-holes-count : goal.slice_bounds-holes-count
 slice_bounds-holes-count c = holes_start (parts_are _ _ c.requires)
 
@@ -25,7 +21,7 @@ pub slice_bounds-holes-end : goal.slice_bounds-holes-end
 slice_bounds-holes-end c = (parts_are _ _ c.requires).holes_end
 
 pub check_holes-requires : goal.check_holes-requires
-check_holes-requires c = let g = c.shared_slice_known-1.given in
+check_holes-requires c = let g = c.type_inv.s in
     few_holes (parts_are _ _ c.requires) (omega (arith, g 166, g 167))
 
 pub returns-in-Refused : goal.returns-in-Refused
@@ -47,15 +43,15 @@ pub slice_bounds-replies-end : goal.slice_bounds-replies-end
 slice_bounds-replies-end c = (parts_are _ _ c.requires).replies_end
 
 pub overflow_cast-result : goal.overflow_cast-result
-overflow_cast-result c = omega (arith, gap_small _ _ _ (holes c) (sym c.cover_ticks.ensures ∙ ap answer_of_cover c.in-Gap.is))
+overflow_cast-result c = omega (arith, gap_small _ _ _ (sym c.check_holes.ensures ∙ ap answer_of_checked c.in_default.is) (sym c.cover_ticks.ensures ∙ ap answer_of_cover c.in-Gap.is))
 
 pub accept_replies-requires : goal.accept_replies-requires
-accept_replies-requires c = let g = c.shared_slice_known-1.given in
+accept_replies-requires c = let g = c.type_inv.s in
     let e = c.args.l.holes_end in
-    (few_replies (parts_are _ _ c.requires) (omega (arith, g e, g (e + 1))), ticks_small _ _ _ (holes c) (sym c.cover_ticks.ensures ∙ ap answer_of_cover c.in-Ticks.is))
+    (few_replies (parts_are _ _ c.requires) (omega (arith, g e, g (e + 1))), ticks_small _ _ _ (sym c.check_holes.ensures ∙ ap answer_of_checked c.in_default.is) (sym c.cover_ticks.ensures ∙ ap answer_of_cover c.in-Ticks.is))
 
 pub returns-in-Gap : goal.returns-in-Gap
-returns-in-Gap c = rw (holes c, sym c.cover_ticks.ensures ∙ ap answer_of_cover c.in-Gap.is)
+returns-in-Gap c = rw ((sym c.check_holes.ensures ∙ ap answer_of_checked c.in_default.is), sym c.cover_ticks.ensures ∙ ap answer_of_cover c.in-Gap.is)
 
 pub returns-in-Ticks : goal.returns-in-Ticks
-returns-in-Ticks c = rw (holes c, sym c.cover_ticks.ensures ∙ ap answer_of_cover c.in-Ticks.is) c.accept_replies.ensures
+returns-in-Ticks c = rw ((sym c.check_holes.ensures ∙ ap answer_of_checked c.in_default.is), sym c.cover_ticks.ensures ∙ ap answer_of_cover c.in-Ticks.is) c.accept_replies.ensures
