@@ -18,14 +18,20 @@ abbrev pub value_code : Answer ℕ → ℕ
 value_code (answer value) = value
 value_code (refused number place) = refusal_code number place
 
+-- The answer of a call that is lent a list for two numbers: 15 for another length, after its own refusals.
+abbrev pub into_two : {A : Type 0} → List ℤ → Answer A → Answer A
+into_two two (answer a) = cond (eqb (length two) 2) (answer a) (refused 15 0)
+into_two two (refused number place) = refused number place
+
+-- The list afterwards: least and greatest, or what it held.
+abbrev pub two_after : List ℤ → Answer Bounds → List ℤ
+two_after two (answer b) = b.least ∷ b.greatest ∷ []
+two_after two (refused number place) = two
+
 -- The answer of a call that is lent a list for k numbers: 15 for another length, after its own refusals.
 abbrev pub into : {A X : Type 0} → ℕ → List X → Answer A → Answer A
 into k list (answer a) = cond (eqb (length list) k) (answer a) (refused 15 0)
 into k list (refused number place) = refused number place
-
--- The two numbers of a net charge: least and greatest.
-abbrev pub bounds_list : Bounds → List ℤ
-bounds_list b = b.least ∷ b.greatest ∷ []
 
 -- The three numbers of voltages: highest, lowest, sum.
 abbrev pub voltages_list : Voltages → List ℕ

@@ -9,7 +9,7 @@ ghost use Rattle.trace.specs.Sections.{walk_answer, reply_count};
 ghost use Rattle.samples.specs.Answers.{cells_answer};
 ghost use Rattle.totals.specs.Totals.{net_answer};
 ghost use Rattle.judge.specs.Judge.{judge_answer, report_after, verdicts_after};
-ghost use Rattle.buttmitrel.specs.Code.{code_of, value_code, into, bounds_list, voltages_list};
+ghost use Rattle.buttmitrel.specs.Code.{code_of, value_code, into_two, two_after, into, voltages_list};
 
 use judge::Judged;
 use pec::{Checked, Sealed};
@@ -77,8 +77,8 @@ pub extern "C" fn buttmitrel_check(reply: &[u8]) -> u64
 // Writes the least and the greatest net charge of a trace, in mA seconds, into a list of two.
 #[unsafe(no_mangle)]
 pub extern "C" fn buttmitrel_net_charge(s: &[u8], bounds: &mut [i64]) -> u64
-    ensures answer { result ≡ code_of (into 2 bounds.old (net_answer s.now)) }
-    ensures bounds { bounds.new ≡ or_kept (into 2 bounds.old (net_answer s.now)) bounds_list bounds.old }
+    ensures answer { result ≡ code_of (into_two bounds.old (net_answer s.now)) }
+    ensures bounds { bounds.new ≡ two_after bounds.old (into_two bounds.old (net_answer s.now)) }
 {
     match totals::net_charge(s) {
         NetCharge::Refused(why) => code(why),

@@ -2,10 +2,11 @@
 use Prim.Native.Nat.{ℕ}
 use mathlib.Core.Path.{◌≡◌, refl}
 use mathlib.Core.List.{List}
+use mathlib.Core.Bool.{cond}
+use lib.Dec.{eqb}
 use lib.ListN.{length}
 use borrow.Author.Tests.{eq-eqb}
-use Rattle.refusals.specs.Refusals.{Answer, answer, refused, or_kept}
-use Rattle.buttmitrel.specs.Code.{into}
+use Rattle.refusals.specs.Refusals.{Answer, answer, refused, and_then, or_kept}
 use Rattle.recording.specs.Recorder.{start_answer, offered, drained}
 use Rattle.recording.specs.declared.Recorder.{Recorder}
 use Rattle.buttmitrel_recorder.specs.Numbers.{numbers_of}
@@ -15,7 +16,7 @@ after_call : {A : Type 0} (f : A → Recorder) (r : Recorder) (a : Answer A) →
 after_call f r (answer x) = refl
 after_call f r (refused p q) = refl
 
-started : (a : Answer Recorder) (six : List ℕ) → length six ≡ 6 → into 6 six a ≡ a
+started : (a : Answer Recorder) (six : List ℕ) → length six ≡ 6 → and_then a (λ r. cond (eqb (length six) 6) (answer r) (refused 15 0)) ≡ a
 started (answer r) six l = rw (eq-eqb (length six) 6 l) refl
 started (refused p q) six l = refl
 

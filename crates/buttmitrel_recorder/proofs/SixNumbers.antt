@@ -2,15 +2,21 @@
 use Prim.Native.Nat.{ℕ}
 use mathlib.Core.Path.{◌≡◌, refl, sym, ap, ◌∙◌}
 use mathlib.Core.Bool.{cond}
-use mathlib.Core.List.{List, [], ◌∷◌}
+use mathlib.Core.List.{List, [], ◌∷◌, ◌++◌, append-nil}
 use native.Mathlib.Omega.{arith}
 use lib.Dec.{eqb}
-use lib.ListN.{length, set}
+use lib.ListN.{length, set, drop_of_length-le}
+use lib.Seq.{sets, sets-eq}
 use borrow.Author.Tests.{eq-eqb, ne_eqb}
 use Rattle.refusals.specs.Refusals.{Answer, answer, refused, and_then, or_kept}
 use Rattle.recording.specs.declared.Recorder.{Recorder}
-use Rattle.buttmitrel.specs.Code.{value_code, refusal_code}
-use Rattle.buttmitrel_recorder.specs.Numbers.{numbers_of, recorder_of}
+use Rattle.recording.specs.Recorder.{start_answer}
+use Rattle.buttmitrel.specs.Code.{code_of, value_code, refusal_code}
+use Rattle.buttmitrel_recorder.specs.Numbers.{numbers_of, recorder_of, start_call, numbers_after_start}
+
+pub six_stored : (six : List ℕ) (r : Recorder) → length six ≡ 6 → sets six 0 (numbers_of r) ≡ numbers_of r
+six_stored six r l =
+    sets-eq (numbers_of r) six 0 (omega arith) ∙ ap (λ rest. numbers_of r ++ rest) (drop_of_length-le six {i = 6} (omega arith)) ∙ append-nil (numbers_of r)
 
 -- A call that changes one of them.
 pub one_stored : (six : List ℕ) (r r' : Recorder) → length six ≡ 6 → r ≡ recorder_of six
@@ -24,6 +30,20 @@ one_stored (a ∷ b ∷ c ∷ d ∷ g ∷ []) r r' l e f = absurd (omega arith)
 one_stored (a ∷ b ∷ c ∷ d ∷ g ∷ h ∷ []) r r' l e f =
     ap (λ q. q.cells ∷ q.number ∷ q.next ∷ q.holes ∷ r'.stored ∷ q.ever ∷ []) (sym e) ∙ sym (ap numbers_of f)
 one_stored (a ∷ b ∷ c ∷ d ∷ g ∷ h ∷ i ∷ s) r r' l e f = absurd (omega arith)
+
+-- A start.
+module _ (cells number : ℕ) (six : List ℕ) where
+  abbrev pub Starts : ℕ → List ℕ → Type 0
+  Starts n now = (n ≡ code_of (start_call cells number six)) × (now ≡ numbers_after_start six (start_call cells number six))
+
+  pub start_refused : {n p q : ℕ} → refused p q ≡ start_answer cells number → n ≡ refusal_code p q → Starts n six
+  start_refused e f = rw (← e) (f, refl)
+
+  pub start_not_six : {n : ℕ} (r : Recorder) → answer r ≡ start_answer cells number → (length six ≡ 6 → ⊥) → n ≡ refusal_code 15 0 → Starts n six
+  start_not_six r e l f = rw (← e, ne_eqb (length six) 6 l) (f, refl)
+
+  pub started : (r : Recorder) {now : List ℕ} → answer r ≡ start_answer cells number → length six ≡ 6 → now ≡ numbers_of r → Starts 0 now
+  started r e l f = rw (← e, eq-eqb (length six) 6 l) (refl, f)
 
 -- A call on a running recorder: its outcome, the number that it answers, the record, and another lent list.
 module _ {A : Type 0} (value : A → ℕ) (after : A → Recorder) (list : A → List ℕ) (six old : List ℕ) where

@@ -1,7 +1,6 @@
 -- The recorder for a caller that keeps its record as six numbers: cells, number, next tick, holes, stored and undrained, ever stored.
 use Rattle.std.specs.Prelude.{ℕ, cond, List, [], ◌∷◌, eqb, length, get_or}
-use Rattle.refusals.specs.Refusals.{Answer, refused, or_kept}
-use Rattle.buttmitrel.specs.Code.{into}
+use Rattle.refusals.specs.Refusals.{Answer, answer, refused, and_then, or_kept}
 use Rattle.rules.specs.Samples.{Sample}
 use Rattle.recording.specs.Recorder.{AfterOffer, AfterDrain, start_answer, offered, drained}
 use Rattle.recording.specs.declared.Recorder.{Recorder}
@@ -17,7 +16,7 @@ recorder_of six =
 
 -- A start: 3, then 15 unless six numbers are lent.
 abbrev pub start_call : ℕ → ℕ → List ℕ → Answer Recorder
-start_call cells number six = into 6 six (start_answer cells number)
+start_call cells number six = and_then (start_answer cells number) (λ r. cond (eqb (length six) 6) (answer r) (refused 15 0))
 
 abbrev pub numbers_after_start : List ℕ → Answer Recorder → List ℕ
 numbers_after_start six a = or_kept a numbers_of six

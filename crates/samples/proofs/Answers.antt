@@ -9,14 +9,14 @@ use Rattle.refusals.specs.Refusals.{answer, refused}
 use Rattle.rules.specs.declared.Readings.{Readings}
 use Rattle.rules.specs.Samples.{Sample, readings_of}
 use Rattle.trace.specs.Records.{sample_width, stamped_at}
-use Rattle.samples.specs.declared.Voltages.{Voltages}
+use Rattle.samples.specs.declared.cells.Volts.{Volts}
 use Rattle.samples.specs.declared.cells.Temps.{Temps}
-use Rattle.samples.specs.inner.Cells.{temps_of}
-use Rattle.samples.specs.Answers.{voltages_of, read_at_answer}
+use Rattle.samples.specs.inner.Cells.{volts_of, temps_of}
+use Rattle.samples.specs.Answers.{read_at_answer}
 
-pub readings_are : (x : Sample) {current board : ℤ} {v : Voltages} {t : Temps} {r : Readings}
-    → r ≡ record { current = current; board = board; highest_cell = v.highest; lowest_cell = v.lowest; sum_of_cells = v.sum; highest_temp = t.high; lowest_temp = t.low }
-    → current ≡ x.current → board ≡ x.board → v ≡ voltages_of x.volts → t ≡ temps_of x.temps → r ≡ readings_of x
+pub readings_are : (x : Sample) {current board : ℤ} {v : Volts} {t : Temps} {r : Readings}
+    → r ≡ record { current = current; board = board; highest_cell = v.high; lowest_cell = v.low; sum_of_cells = v.total; highest_temp = t.high; lowest_temp = t.low }
+    → current ≡ x.current → board ≡ x.board → v ≡ volts_of x.volts → t ≡ temps_of x.temps → r ≡ readings_of x
 unfolding readings_of
 readings_are x e c b v t = rw (e, c, b, v, t)
 
