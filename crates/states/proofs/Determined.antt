@@ -1,5 +1,5 @@
 -- Valid records that allow the same states are the same record.
-use Prim.Native.Nat.{ℕ, suc, ◌+◌, ◌*◌, ◌^◌, ◌/◌, ◌%◌, ◌<◌}
+use Prim.Native.Nat.{ℕ, suc, ◌+◌, ◌*◌, ◌/◌, ◌%◌, ◌<◌}
 use mathlib.Core.Path.{◌≡◌, ap, sym, ◌∙◌}
 use mathlib.Core.List.{List}
 use mathlib.Core.Bool.{Bool, false}
@@ -15,7 +15,6 @@ use Rattle.rules.specs.Evaluation.{top}
 use Rattle.fillings.specs.PossibleStates.{has}
 use Rattle.states.specs.Records.{at, Fit64, states_of, rule_words}
 use Rattle.limits.specs.Limits.{setting_of}
-use Rattle.states.specs.Steps.{set_of}
 use Rattle.states.specs.Validity.{valid_set}
 use Rattle.states.specs.promises.Tracking.{Determined}
 use Rattle.states.proofs.Packing.{same_words}

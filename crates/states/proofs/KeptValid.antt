@@ -1,8 +1,8 @@
 -- A record of possible states stays one: from the start, over a seen tick, and over unseen ticks.
 use Prim.Native.Nat.{ℕ, zero, suc, ◌≤◌, ◌<◌}
-use mathlib.Core.Path.{◌≡◌, refl, ap, sym, ◌∙◌, subst}
+use mathlib.Core.Path.{◌≡◌, refl, sym, ◌∙◌, subst}
 use mathlib.Core.List.{List, []}
-use mathlib.Core.Bool.{Bool, true, false, not, cond, ◌&&◌, ◌||◌}
+use mathlib.Core.Bool.{Bool, true, false, not, ◌||◌}
 use mathlib.Core.Logic.{⊎_elim}
 use native.Mathlib.Omega.{arith}
 use native.Mathlib.Nat.{eq-or-lt_of_le}
@@ -19,7 +19,7 @@ use Rattle.fillings.specs.PossibleStates.{has, Moves, found, anything, next, sta
 use Rattle.fillings.proofs.Next.{next_length, unseen_length, by_up, by_restart, by_leave, by_stay}
 use Rattle.states.specs.Records.{at, states_of, words_of, rule_words, record_with, fresh}
 use Rattle.limits.specs.Limits.{setting_of}
-use Rattle.states.specs.Steps.{set_of, moves_at, seen_words, after_seen, evaluations_of, moves_between, unseen_words, after_unseen}
+use Rattle.states.specs.Steps.{set_of, moves_at, after_seen, evaluations_of, moves_between, after_unseen}
 use Rattle.states.specs.Validity.{valid_set, valid_record}
 use Rattle.states.proofs.Packing.{words_of_length, at_words_of}
 use Rattle.states.proofs.Moving.{states_length, has_states}

@@ -1,15 +1,15 @@
 -- A rule that is switched off stays at state 0.
 use Prim.Native.Nat.{ℕ, zero, suc}
-use mathlib.Core.Path.{◌≡◌, refl, ap, ap₂, sym, ◌∙◌}
+use mathlib.Core.Path.{◌≡◌, refl, ap, ap₂, ◌∙◌}
 use mathlib.Core.List.{List, [], ◌∷◌}
 use mathlib.Core.Bool.{Bool, true, false, not, cond, ◌&&◌, ◌||◌}
 use native.Mathlib.Omega.{arith}
-use lib.ListN.{length, get_or}
+use lib.ListN.{get_or}
 use lib.Seq.{ext_get_or}
 use Rattle.rules.specs.Evaluation.{top, evaluated}
 use Rattle.rules.specs.Samples.{readings_of}
 use Rattle.fillings.specs.Fillings.{Rule, last, Shown, seen, unseen}
-use Rattle.fillings.specs.PossibleStates.{has, Moves, moves, next, start, possible}
+use Rattle.fillings.specs.PossibleStates.{Moves, moves, next, start, possible}
 use Rattle.fillings.proofs.Next.{next_length, next_only_zero}
 
 either : (w : Moves) → (w.leave || w.stay) ≡ true → (w.leave && true || w.stay && true) ≡ true

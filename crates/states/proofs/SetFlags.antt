@@ -3,7 +3,7 @@ use Prim.Native.Nat.{ℕ, zero, suc, ◌+◌, ◌*◌, ◌/◌, ◌%◌, ◌≤�
 use mathlib.Core.Path.{◌≡◌, ap, ap₂, sym, ◌∙◌, subst}
 use mathlib.Core.List.{List}
 use mathlib.Core.Bool.{Bool, true, false, not, ◌&&◌}
-use mathlib.Core.Logic.{◌⊎◌, ⊎_elim}
+use mathlib.Core.Logic.{⊎_elim}
 use native.Mathlib.Omega.{arith}
 use native.Mathlib.Nat.{eq-or-lt_of_le}
 use native.Mathlib.Numerals.{add-one}
@@ -14,7 +14,6 @@ use borrow.Author.Tests.{lt-ltb, eq-eqb, ne_eqb}
 use Rattle.lists.specs.Lists.{some_below}
 use Rattle.lists.proofs.Bools.{and_left, and_right, both, refuted, bool_ext, equal?, some_intro, some_elim}
 use Rattle.rules.specs.Evaluation.{alert, status}
-use Rattle.flags.specs.declared.Flag.TheVariants.{Clear}
 use Rattle.flags.specs.Flags.{flag_of}
 use Rattle.fillings.specs.PossibleStates.{has}
 use Rattle.fillings.specs.Flags.{flag}

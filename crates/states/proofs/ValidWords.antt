@@ -6,15 +6,13 @@ use mathlib.Core.Bool.{Bool, true, false, not, cond, ◌&&◌, ◌||◌, and-fal
 use mathlib.Core.Logic.{⊎_elim}
 use native.Mathlib.Omega.{arith}
 use native.Mathlib.Nat.{mod-le}
-use native.Mathlib.Numerals.{add-one}
-use lib.Dec.{T, ltb, eqb, ltb→lt, lt→ltb, eqb→eq, eqb_refl}
+use lib.Dec.{T, ltb, eqb, ltb→lt, lt→ltb, eqb→eq}
 use lib.ListN.{get_or, length}
 use borrow.Author.Tests.{lt-ltb, le-ltb, eq-eqb, ne_eqb, eqb-true, eqb-false}
 use borrow.Author.Count.{below_more}
 use Rattle.lists.specs.Lists.{tabulate, some_below, every_below}
 use Rattle.lists.proofs.Bools.{and_left, and_right, both, is_true, refuted, both_false, below?, some_intro, some_elim, every_intro, every_elim, get_d_tabulate}
 use Rattle.rules.specs.declared.Setting.{Setting}
-use Rattle.rules.specs.Evaluation.{top}
 use Rattle.states.specs.Records.{bit, at}
 use Rattle.states.specs.inner.Words.{below_word, Below}
 use Rattle.limits.specs.Limits.{setting_of}

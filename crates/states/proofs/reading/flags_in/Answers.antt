@@ -1,8 +1,6 @@
-use Prim.Native.Nat.{◌-◌}
 use mathlib.Core.Path.{refl, ◌∙◌}
-use native.Mathlib.Omega.{arith}
-use Rattle.lists.proofs.Laying.{Laying, laying_start, laying_next, laying_end}
-use Rattle.states.proofs.RuleFlagLaws.{unknown, flags_in, read_all, read_none}
+use Rattle.lists.proofs.Laying.{laying_start, laying_next, laying_end}
+use Rattle.states.proofs.RuleFlagLaws.{read_all, read_none}
 use Rattle.states.proofs.reading.flags_in.Goals as goal
 
 pub returns-then-words-ne80 : goal.returns-then-words-ne80

@@ -1,8 +1,6 @@
 use Prim.Native.Nat.{◌-◌}
-use mathlib.Core.Path.{refl, ◌∙◌}
-use native.Mathlib.Omega.{arith}
-use Rattle.lists.proofs.Laying.{Laying, laying_start, laying_next, laying_end}
-use Rattle.states.proofs.RuleFlagLaws.{unknown, flags_in, read_all, read_none}
+use Rattle.lists.proofs.Laying.{Laying}
+use Rattle.states.proofs.RuleFlagLaws.{unknown, flags_in}
 use Rattle.states.proofs.reading.flags_in.Given as goal
 
 abbrev pub invariant-loop-i : goal.invariant-loop-i

@@ -1,5 +1,4 @@
 use Rattle.states.proofs.RuleFlagLaws.{flags_read_lem}
-use borrow.Author.Rules.{rules}
 use Rattle.states.proofs.reading.flags_of_rule.Goals as goal
 
 pub returns : goal.returns

@@ -1,8 +1,5 @@
-use Prim.Native.Nat.{◌+◌, ◌*◌, ◌-◌}
 use mathlib.Core.Path.{refl, ◌∙◌}
-use native.Mathlib.Omega.{arith}
-use lib.ListN.{get_or}
-use Rattle.lists.proofs.Laying.{Laying, laying_start, laying_next, laying_end}
+use Rattle.lists.proofs.Laying.{laying_start, laying_next, laying_end}
 use Rattle.states.proofs.RuleWords.{words_read}
 use Rattle.states.proofs.record.load.Goals as goal
 

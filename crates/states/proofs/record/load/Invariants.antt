@@ -1,9 +1,6 @@
 use Prim.Native.Nat.{◌+◌, ◌*◌, ◌-◌}
-use mathlib.Core.Path.{refl, ◌∙◌}
-use native.Mathlib.Omega.{arith}
 use lib.ListN.{get_or}
-use Rattle.lists.proofs.Laying.{Laying, laying_start, laying_next, laying_end}
-use Rattle.states.proofs.RuleWords.{words_read}
+use Rattle.lists.proofs.Laying.{Laying}
 use Rattle.states.proofs.record.load.Given as goal
 
 abbrev pub invariant-loop-j : goal.invariant-loop-j

@@ -1,7 +1,5 @@
 use Prim.Native.Nat.{◌-◌}
-use mathlib.Core.Path.{sym, ◌∙◌}
-use native.Mathlib.Omega.{arith}
-use Rattle.states.proofs.RuleWords.{Storing, storing_start, storing_next, storing_end}
+use Rattle.states.proofs.RuleWords.{Storing}
 use Rattle.states.proofs.record.store.Given as goal
 
 abbrev pub invariant-loop-j : goal.invariant-loop-j

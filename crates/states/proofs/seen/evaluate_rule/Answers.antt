@@ -2,7 +2,6 @@ use Prim.Native.Nat.{ℕ}
 use mathlib.Core.Path.{refl, ap, ◌∙◌}
 use mathlib.Core.List.{List}
 use lib.Dec.{eqb}
-use borrow.Author.Rules.{rules}
 use Rattle.rules.specs.Evaluation.{clears}
 use Rattle.states.specs.Records.{record_with}
 use Rattle.states.proofs.Tops.{positive_top}

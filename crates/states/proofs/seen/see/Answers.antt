@@ -1,9 +1,7 @@
-use Prim.Native.Nat.{◌-◌}
 use mathlib.Core.Path.{sym, ◌∙◌}
 use native.Mathlib.Omega.{arith}
-use borrow.Author.Rules.{rules}
 use Rattle.states.proofs.EachRule.{moving_start, moving_length}
-use Rattle.states.proofs.RuleSteps.{Seeing, seeing_next, seeing_end, seen_kept}
+use Rattle.states.proofs.RuleSteps.{seeing_next, seeing_end, seen_kept}
 use Rattle.rules.proofs.Rows.{row_of}
 use Rattle.states.proofs.seen.see.Goals as goal
 
@@ -18,7 +16,7 @@ step_rule-requires c = (moving_length _ _ _ _ _ c.loop-i.invariant, omega arith)
 
 pub loop-i-preserved : goal.loop-i-preserved
 loop-i-preserved c = let a = c.args in
-    seeing_next a.t2.of a.idle a.tick a.readings a.words.now c.loop-i.words c.step_rule.new.0 c.loop-i.i _ (row_of _ _ _ c.all_rows-table.ensures (omega arith)) c.loop-i.invariant (omega arith) c.step_rule.ensures
+    seeing_next a.settings.of a.idle a.tick a.readings a.words.now c.loop-i.words c.step_rule.new.words c.loop-i.i _ (row_of _ _ _ c.all_rows-table.ensures (omega arith)) c.loop-i.invariant (omega arith) c.step_rule.ensures
 
 pub shape_of-words : goal.shape_of-words
 shape_of-words c = moving_length _ _ _ _ _ c.loop-i.invariant ∙ sym c.loop-i.invariant.long

@@ -1,10 +1,5 @@
 use Prim.Native.Nat.{◌-◌}
-use mathlib.Core.Path.{sym, ◌∙◌}
-use native.Mathlib.Omega.{arith}
-use borrow.Author.Rules.{rules}
-use Rattle.states.proofs.EachRule.{moving_start, moving_length}
-use Rattle.states.proofs.RuleSteps.{Seeing, seeing_next, seeing_end, seen_kept}
-use Rattle.rules.proofs.Rows.{row_of}
+use Rattle.states.proofs.RuleSteps.{Seeing}
 use Rattle.states.proofs.seen.see.Given as goal
 
 abbrev pub invariant-loop-i : goal.invariant-loop-i

@@ -1,5 +1,4 @@
 use mathlib.Core.Path.{sym, ◌∙◌}
-use borrow.Author.Rules.{rules}
 use Rattle.rules.specs.Evaluation.{evaluated}
 use Rattle.states.specs.Steps.{moves_by}
 use Rattle.states.proofs.EachRule.{rule_stays}
@@ -13,7 +12,7 @@ pub returns-then-evaluated_at : goal.returns-then-evaluated_at
 returns-then-evaluated_at c = let move = c.evaluate_rule in
     let test = c.evaluated_at in
     let a = c.args in
-    seen_moves a.idle a.tick a.i a.readings a.setting a.words.now move.new.0 a.row test.result c.if-setting-eq0.false test.ensures c.if-evaluated_at.true move.ensures
+    seen_moves a.idle a.tick a.i a.readings a.setting a.words.now move.new.words a.row test.result c.if-setting-eq0.false test.ensures c.if-evaluated_at.true move.ensures
 
 pub returns-else-evaluated_at : goal.returns-else-evaluated_at
 returns-else-evaluated_at c = let a = c.args in

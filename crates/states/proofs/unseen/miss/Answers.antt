@@ -1,9 +1,6 @@
-use Prim.Native.Nat.{◌-◌}
 use mathlib.Core.Path.{sym, ◌∙◌}
-use native.Mathlib.Omega.{arith}
-use borrow.Author.Rules.{rules}
 use Rattle.states.proofs.EachRule.{moving_start, moving_length}
-use Rattle.states.proofs.RuleSteps.{Missing, missing_next, missing_end, unseen_kept}
+use Rattle.states.proofs.RuleSteps.{missing_next, missing_end, unseen_kept}
 use Rattle.rules.proofs.Rows.{row_of}
 use Rattle.states.proofs.unseen.miss.Goals as goal
 
@@ -18,7 +15,7 @@ miss_rule-requires c = let h = c.loop-i-test.true in (moving_length _ _ _ _ _ c.
 
 pub loop-i-preserved : goal.loop-i-preserved
 loop-i-preserved c = let a = c.args in
-    missing_next a.t2.of a.first a.last a.words.now c.loop-i.words c.miss_rule.new.0 c.loop-i.i c.loop-i.invariant c.loop-i-test.true c.miss_rule.ensures
+    missing_next a.settings.of a.first a.last a.words.now c.loop-i.words c.miss_rule.new.words c.loop-i.i c.loop-i.invariant c.loop-i-test.true c.miss_rule.ensures
 
 pub shape_of-words : goal.shape_of-words
 shape_of-words c = moving_length _ _ _ _ _ c.loop-i.invariant ∙ sym c.loop-i.invariant.long

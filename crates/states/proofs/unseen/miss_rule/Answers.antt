@@ -1,7 +1,6 @@
 use Prim.Native.Nat.{ℕ, ◌<◌}
 use mathlib.Core.Path.{sym, subst}
 use lib.Dec.{ltb}
-use borrow.Author.Rules.{rules}
 use Rattle.states.specs.Steps.{evaluations_of, moves_between}
 use Rattle.states.proofs.Tops.{top_pos}
 use Rattle.states.proofs.EachRule.{rule_stays, rule_moves}

@@ -1,4 +1,3 @@
-use borrow.Author.Rules.{rules}
 use Rattle.states.proofs.validity.ends_below.Goals as goal
 
 pub returns : goal.returns

@@ -1,6 +1,4 @@
-use Prim.Native.Nat.{◌-◌}
-use native.Mathlib.Omega.{arith}
-use Rattle.states.proofs.ValidWords.{AllValid, all_start, all_next, all_end, all_stop, all_none}
+use Rattle.states.proofs.ValidWords.{all_start, all_next, all_end, all_stop, all_none}
 use Rattle.states.proofs.validity.valid.Goals as goal
 
 pub returns-then-words-ne80 : goal.returns-then-words-ne80

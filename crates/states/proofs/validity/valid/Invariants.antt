@@ -1,6 +1,5 @@
 use Prim.Native.Nat.{◌-◌}
-use native.Mathlib.Omega.{arith}
-use Rattle.states.proofs.ValidWords.{AllValid, all_start, all_next, all_end, all_stop, all_none}
+use Rattle.states.proofs.ValidWords.{AllValid}
 use Rattle.states.proofs.validity.valid.Given as goal
 
 abbrev pub invariant-loop-i : goal.invariant-loop-i

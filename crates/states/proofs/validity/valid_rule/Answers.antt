@@ -1,11 +1,8 @@
-use Prim.Native.Nat.{ℕ, ◌-◌, ◌*◌, ◌+◌, ◌≤◌}
+use Prim.Native.Nat.{ℕ, ◌*◌, ◌+◌, ◌≤◌}
 use mathlib.Core.Path.{sym, ap, subst}
-use native.Mathlib.Omega.{arith}
-use borrow.Author.Rules.{rules}
 use Rattle.rules.specs.Evaluation.{top}
-use Rattle.states.specs.Records.{rule_words}
 use Rattle.states.proofs.RuleWords.{part}
-use Rattle.states.proofs.ValidWords.{Checked, checked_start, checked_next, checked_stop, checked_end}
+use Rattle.states.proofs.ValidWords.{checked_start, checked_next, checked_stop, checked_end}
 use Rattle.states.proofs.validity.valid_rule.Goals as goal
 
 pub loop-j-init : goal.loop-j-init

@@ -1,11 +1,6 @@
-use Prim.Native.Nat.{ℕ, ◌-◌, ◌*◌, ◌+◌, ◌≤◌}
-use mathlib.Core.Path.{sym, ap, subst}
-use native.Mathlib.Omega.{arith}
-use borrow.Author.Rules.{rules}
-use Rattle.rules.specs.Evaluation.{top}
+use Prim.Native.Nat.{◌-◌}
 use Rattle.states.specs.Records.{rule_words}
-use Rattle.states.proofs.RuleWords.{part}
-use Rattle.states.proofs.ValidWords.{Checked, checked_start, checked_next, checked_stop, checked_end}
+use Rattle.states.proofs.ValidWords.{Checked}
 use Rattle.states.proofs.validity.valid_rule.Given as goal
 
 abbrev pub invariant-loop-j : goal.invariant-loop-j

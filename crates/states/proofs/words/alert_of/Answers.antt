@@ -1,6 +1,5 @@
 use mathlib.Core.Path.{◌∙◌}
 use Rattle.states.proofs.SetFlags.{alert_right}
-use borrow.Author.Rules.{rules}
 use Rattle.flags.proofs.OutputLaws.{by_number}
 use Rattle.states.proofs.words.alert_of.Goals as goal
 

@@ -1,5 +1,4 @@
 use Rattle.states.proofs.AtZero.{zero_words}
-use borrow.Author.Rules.{rules}
 use Rattle.states.proofs.words.at_zero.Goals as goal
 
 pub returns : goal.returns

@@ -1,8 +1,5 @@
-use Prim.Native.Nat.{◌-◌}
-use native.Mathlib.Omega.{arith}
 use borrow.Author.Rules.{rules}
-use Rattle.states.specs.inner.Words.{below_word}
-use Rattle.states.proofs.FiveWords.{Changed, changed_start, changed_next, changed_end, below_bits}
+use Rattle.states.proofs.FiveWords.{changed_start, changed_next, changed_end, below_bits}
 use Rattle.states.proofs.words.below.Goals as goal
 
 pub loop-i-init : goal.loop-i-init

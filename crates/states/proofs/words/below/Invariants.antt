@@ -1,8 +1,6 @@
 use Prim.Native.Nat.{◌-◌}
-use native.Mathlib.Omega.{arith}
-use borrow.Author.Rules.{rules}
 use Rattle.states.specs.inner.Words.{below_word}
-use Rattle.states.proofs.FiveWords.{Changed, changed_start, changed_next, changed_end, below_bits}
+use Rattle.states.proofs.FiveWords.{Changed}
 use Rattle.states.proofs.words.below.Given as goal
 
 abbrev pub invariant-loop-i : goal.invariant-loop-i

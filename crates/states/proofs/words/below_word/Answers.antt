@@ -4,7 +4,6 @@ use lib.Pow.{pow_pos}
 use borrow.Author.Tests.{lt-ltb, le-ltb, eq-eqb, ne_eqb}
 use Rattle.states.specs.inner.Words.{below_word}
 use Rattle.states.proofs.Bits.{one_shifted}
-use borrow.Author.Rules.{rules}
 use Rattle.states.proofs.words.below_word.Goals as goal
 
 pub returns-then-j-t : goal.returns-then-j-t

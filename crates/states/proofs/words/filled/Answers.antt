@@ -1,5 +1,4 @@
 use Rattle.states.proofs.ShiftedWords.{filled_made}
-use borrow.Author.Rules.{rules}
 use Rattle.states.proofs.words.filled.Goals as goal
 
 pub returns : goal.returns

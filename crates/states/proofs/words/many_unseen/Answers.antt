@@ -7,16 +7,16 @@ use Rattle.states.proofs.ManyUnseen.{one_unseen, none_moves, some_move}
 use borrow.Author.Rules.{rules}
 use Rattle.states.proofs.words.many_unseen.Goals as goal
 
-low_fits : (c : goal.After-below-low) (j : ℕ) → Fits w64 (get_or c.below-low.result j 0)
+low_fits : (c : goal.After-with_state) (j : ℕ) → Fits w64 (get_or c.below-low.result j 0)
 low_fits c j = search rules
 
-low_long : (c : goal.After-below-low) → length c.below-low.result ≡ 5
+low_long : (c : goal.After-with_state) → length c.below-low.result ≡ 5
 low_long c = search rules
 
-cut_fits : (c : goal.After-below-cut) (j : ℕ) → Fits w64 (get_or c.below-cut.result j 0)
+cut_fits : (c : goal.After-with_state) (j : ℕ) → Fits w64 (get_or c.below-cut.result j 0)
 cut_fits c j = search rules
 
-cut_long : (c : goal.After-below-cut) → length c.below-cut.result ≡ 5
+cut_long : (c : goal.After-with_state) → length c.below-cut.result ≡ 5
 cut_long c = search rules
 
 fits : (c : goal.After-with_state) (j : ℕ) → Fits w64 (get_or c.with_state.result j 0)
@@ -35,7 +35,7 @@ returns-then-some-recovers c = let a = c.args in
     c.some.result c.test-held.result c.same.result
     c.below-low.ensures c.some.ensures c.test-held.ensures c.if-some-recovers.true c.smaller-k.ensures c.below-cut.ensures
     c.filled-up.ensures c.same.ensures c.with_state.ensures
-    (low_long low) (λ j. (low_fits low j).fits) (cut_long cut) (λ j. (cut_fits cut j).fits) (search (rules, c.with_state.type_inv)) (λ j. (fits c j).fits)
+    (low_long c) (λ j. (low_fits c j).fits) (cut_long c) (λ j. (cut_fits c j).fits) (search (rules, c.with_state.type_inv)) (λ j. (fits c j).fits)
 
 pub returns : goal.returns
 returns c = let a = c.args in

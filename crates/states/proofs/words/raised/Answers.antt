@@ -1,5 +1,4 @@
 use Rattle.states.proofs.FiveWords.{raised_up, raised_none}
-use borrow.Author.Rules.{rules}
 use Rattle.states.proofs.words.raised.Goals as goal
 
 pub returns-then-on : goal.returns-then-on

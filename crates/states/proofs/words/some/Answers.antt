@@ -1,5 +1,4 @@
-use Prim.Native.Nat.{ℕ, ◌≤◌, ◌<◌, ◌-◌}
-use mathlib.Core.Path.{◌≡◌}
+use Prim.Native.Nat.{ℕ}
 use native.Mathlib.Omega.{arith}
 use borrow.Author.Rules.{rules}
 use borrow.Author.Count.{below_none, below_more}
@@ -9,7 +8,7 @@ use mir.Syntax.{w64}
 use Rattle.states.proofs.FiveWords.{some_none, some_word}
 use Rattle.states.proofs.words.some.Goals as goal
 
-range : (c : goal.Start) (j : ℕ) → Fits w64 (get_or c.args.w j 0)
+range : (c : goal.Then-w-i-ne0) (j : ℕ) → Fits w64 (get_or c.args.w j 0)
 range c j = search rules
 
 pub loop-i-init : goal.loop-i-init

@@ -1,7 +1,6 @@
 use Rattle.states.proofs.SetFlags.{status_off, status_right}
 use native.Mathlib.Omega.{arith}
 use mathlib.Core.Path.{◌∙◌}
-use borrow.Author.Rules.{rules}
 use Rattle.flags.proofs.OutputLaws.{by_number}
 use Rattle.states.proofs.words.status_of.Goals as goal
 

@@ -1,7 +1,6 @@
 use Prim.Native.Nat.{ℕ, ◌≤◌}
 use mathlib.Core.Path.{sym, subst}
 use Rattle.states.proofs.Tops.{top_fits}
-use borrow.Author.Rules.{rules}
 use Rattle.states.proofs.words.top_for.Goals as goal
 
 pub returns : goal.returns

@@ -1,10 +1,5 @@
-use Prim.Native.Nat.{ℕ, ◌-◌}
-use native.Mathlib.Omega.{arith}
-use borrow.Author.Rules.{rules}
-use lib.ListN.{get_or}
-use mir.Val.{Fits}
-use mir.Syntax.{w64}
-use Rattle.states.proofs.FiveWords.{UpTo, up_start, up_more, up_end}
+use Prim.Native.Nat.{◌-◌}
+use Rattle.states.proofs.FiveWords.{UpTo}
 use Rattle.states.proofs.words.up_one.Given as goal
 
 abbrev pub invariant-loop-i : goal.invariant-loop-i

@@ -1,8 +1,7 @@
-use Prim.Native.Nat.{ℕ, ◌-◌, ◌≤◌}
+use Prim.Native.Nat.{ℕ}
 use mathlib.Core.Path.{◌≡◌, refl, subst}
 use native.Mathlib.Omega.{arith}
 use borrow.Author.Rules.{rules}
-use lib.ListN.{length}
 use Rattle.states.specs.inner.Words.{WordsUp}
 use Rattle.states.proofs.ShiftedWords.{words_up_start, words_up_next}
 use Rattle.states.proofs.words.words_up.Goals as goal
