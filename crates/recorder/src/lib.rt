@@ -38,7 +38,7 @@ pub fn drain(recorder: &mut Recorder, store: &[u8], buffer: &mut [u8]) -> Draine
     step.answer
 }
 
-// `recording::offer`, by lending a local copy of the record to `offer`: for a covered caller, which can not lend one itself.
+// `recording::offer`, by lending a local copy of the record to `offer`.
 pub fn offer_from(
     recorder: Recorder,
     store: &mut [u8],

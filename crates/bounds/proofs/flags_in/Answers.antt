@@ -1,15 +1,9 @@
 use Rattle.bounds.specs.Steps.{flags_of_states}
 use mathlib.Core.Path.{refl}
 use borrow.Author.Tests.{eq-eqb, ne_eqb}
-use Prim.Native.Nat.{◌-◌}
-use borrow.Author.Rules.{rules}
 use native.Mathlib.Omega.{arith}
-use Rattle.lists.proofs.Laying.{Laying, laying_start, laying_next, laying_end}
-use Rattle.fillings.specs.Bounds.{flags_between}
-use Rattle.flags.specs.declared.Flag.TheVariants.{Unknown}
+use Rattle.lists.proofs.Laying.{laying_start, laying_next, laying_end}
 use Rattle.rules.specs.Table.{row_at}
-use lib.ListN.{get_or}
-use Prim.Native.Nat.{◌+◌, ◌-◌}
 use Rattle.bounds.proofs.flags_in.Goals as goal
 
 pub returns-then-states-ne32 : goal.returns-then-states-ne32

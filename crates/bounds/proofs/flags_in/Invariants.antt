@@ -1,10 +1,5 @@
-use Rattle.bounds.specs.Steps.{flags_of_states}
-use mathlib.Core.Path.{refl}
-use borrow.Author.Tests.{eq-eqb, ne_eqb}
 use Prim.Native.Nat.{◌-◌}
-use borrow.Author.Rules.{rules}
-use native.Mathlib.Omega.{arith}
-use Rattle.lists.proofs.Laying.{Laying, laying_start, laying_next, laying_end}
+use Rattle.lists.proofs.Laying.{Laying}
 use Rattle.fillings.specs.Bounds.{flags_between}
 use Rattle.flags.specs.declared.Flag.TheVariants.{Unknown}
 use Rattle.rules.specs.Table.{row_at}

@@ -1,15 +1,9 @@
 use Rattle.rules.proofs.Rows.{row_of}
 use Rattle.rules.specs.declared.Row.{Row}
 use mathlib.Core.Path.{refl, ap, ◌∙◌}
-use Prim.Native.Nat.{◌-◌}
-use borrow.Author.Rules.{rules}
-use native.Mathlib.Omega.{arith}
 use Rattle.bounds.specs.Plan.{lanes_of}
-use Rattle.limits.specs.Limits.{setting_of}
-use Rattle.rules.specs.Evaluation.{top}
-use Rattle.rules.specs.Table.{row_at}
 use mathlib.Core.Bool.{cond}
-use Rattle.bounds.proofs.Pairing.{Pairing, pairing_start, pairing_next, pairing_end}
+use Rattle.bounds.proofs.Pairing.{pairing_start, pairing_next, pairing_end}
 use Rattle.bounds.proofs.lanes_of.Goals as goal
 
 pub loop-i-init : goal.loop-i-init

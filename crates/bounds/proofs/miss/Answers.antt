@@ -1,10 +1,7 @@
 use Rattle.rules.proofs.Rows.{row_of}
-use mathlib.Core.Path.{refl, sym, ◌∙◌}
+use mathlib.Core.Path.{sym, ◌∙◌}
 use borrow.Author.Tests.{eq-eqb, ne_eqb}
-use Prim.Native.Nat.{◌-◌}
-use borrow.Author.Rules.{rules}
-use native.Mathlib.Omega.{arith}
-use Rattle.bounds.proofs.MissingRuns.{Missing, missing_start, missing_next, missing_end}
+use Rattle.bounds.proofs.MissingRuns.{missing_start, missing_next, missing_end}
 use Rattle.bounds.proofs.miss.Goals as goal
 
 pub returns-then-states-ne32 : goal.returns-then-states-ne32

@@ -1,10 +1,5 @@
-use Rattle.rules.proofs.Rows.{row_of}
-use mathlib.Core.Path.{refl, sym, ◌∙◌}
-use borrow.Author.Tests.{eq-eqb, ne_eqb}
 use Prim.Native.Nat.{◌-◌}
-use borrow.Author.Rules.{rules}
-use native.Mathlib.Omega.{arith}
-use Rattle.bounds.proofs.MissingRuns.{Missing, missing_start, missing_next, missing_end}
+use Rattle.bounds.proofs.MissingRuns.{Missing}
 use Rattle.bounds.proofs.miss.Given as goal
 
 abbrev pub invariant-loop-i : goal.invariant-loop-i

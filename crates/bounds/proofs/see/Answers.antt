@@ -3,7 +3,6 @@ use mathlib.Core.Path.{refl, ap, ◌∙◌}
 use native.Mathlib.Omega.{arith}
 use Prim.Native.Nat.{◌*◌}
 use borrow.Author.Tests.{eq-eqb, ne_eqb, le-leb, lt-leb}
-use borrow.Author.Rules.{rules}
 use Rattle.bounds.proofs.see.Goals as goal
 
 pub returns-then-r-gt2147483647 : goal.returns-then-r-gt2147483647
@@ -19,25 +18,15 @@ pub overflow_mul-base : goal.overflow_mul-base
 overflow_mul-base c = omega (arith, c.flow_of-base.ensures.1)
 
 pub returns-then-move_states : goal.returns-then-move_states
-returns-then-move_states c = record { states = rw (le-leb _ _ c.if-r-gt2147483647.false, eq-eqb _ _ c.if-states-ne32.false, eq-eqb _ _ c.if-firsts-ne32.false) (
-  c.move_states.ensures.states ∙ states_seen_lem _ _ _ _ _ _ _ _ _ _ c.values_of-values.ensures (ap (16 *◌) c.flow_of-base.ensures.0) c.marks_of-marks.ensures.marks refl,
-  (firsts_noted_lem _ _ _ _ _ c.move_states.ensures.rises c.if-move_states.true c.note_states.ensures, λ t. within_32 _ _ c.values_of-values.ensures c.marks_of-marks.ensures.1.0 c.marks_of-marks.ensures.1.1),
-).0; firsts = rw (le-leb _ _ c.if-r-gt2147483647.false, eq-eqb _ _ c.if-states-ne32.false, eq-eqb _ _ c.if-firsts-ne32.false) (
-  c.move_states.ensures.states ∙ states_seen_lem _ _ _ _ _ _ _ _ _ _ c.values_of-values.ensures (ap (16 *◌) c.flow_of-base.ensures.0) c.marks_of-marks.ensures.marks refl,
-  (firsts_noted_lem _ _ _ _ _ c.move_states.ensures.rises c.if-move_states.true c.note_states.ensures, λ t. within_32 _ _ c.values_of-values.ensures c.marks_of-marks.ensures.1.0 c.marks_of-marks.ensures.1.1),
-).1.0; within = rw (le-leb _ _ c.if-r-gt2147483647.false, eq-eqb _ _ c.if-states-ne32.false, eq-eqb _ _ c.if-firsts-ne32.false) (
-  c.move_states.ensures.states ∙ states_seen_lem _ _ _ _ _ _ _ _ _ _ c.values_of-values.ensures (ap (16 *◌) c.flow_of-base.ensures.0) c.marks_of-marks.ensures.marks refl,
-  (firsts_noted_lem _ _ _ _ _ c.move_states.ensures.rises c.if-move_states.true c.note_states.ensures, λ t. within_32 _ _ c.values_of-values.ensures c.marks_of-marks.ensures.1.0 c.marks_of-marks.ensures.1.1),
-).1.1 }
+returns-then-move_states c = record {
+  states = rw (le-leb _ _ c.if-r-gt2147483647.false, eq-eqb _ _ c.if-states-ne32.false, eq-eqb _ _ c.if-firsts-ne32.false) (c.move_states.ensures.states ∙ states_seen_lem _ _ _ _ _ _ _ _ _ _ c.values_of-values.ensures (ap (16 *◌) c.flow_of-base.ensures.0) c.marks_of-marks.ensures.marks refl);
+  firsts = rw (le-leb _ _ c.if-r-gt2147483647.false, eq-eqb _ _ c.if-states-ne32.false, eq-eqb _ _ c.if-firsts-ne32.false) (firsts_noted_lem _ _ _ _ _ c.move_states.ensures.rises c.if-move_states.true c.note_states.ensures);
+  within = rw (le-leb _ _ c.if-r-gt2147483647.false, eq-eqb _ _ c.if-states-ne32.false, eq-eqb _ _ c.if-firsts-ne32.false) (λ t. within_32 _ _ c.values_of-values.ensures c.marks_of-marks.ensures.least c.marks_of-marks.ensures.greatest);
+}
 
 pub returns-else-move_states : goal.returns-else-move_states
-returns-else-move_states c = record { states = rw (le-leb _ _ c.if-r-gt2147483647.false, eq-eqb _ _ c.if-states-ne32.false, eq-eqb _ _ c.if-firsts-ne32.false) (
-  c.move_states.ensures.states ∙ states_seen_lem _ _ _ _ _ _ _ _ _ _ c.values_of-values.ensures (ap (16 *◌) c.flow_of-base.ensures.0) c.marks_of-marks.ensures.marks refl,
-  (firsts_kept _ _ _ _ _ c.move_states.ensures.rises c.if-move_states.false, λ t. within_32 _ _ c.values_of-values.ensures c.marks_of-marks.ensures.1.0 c.marks_of-marks.ensures.1.1),
-).0; firsts = rw (le-leb _ _ c.if-r-gt2147483647.false, eq-eqb _ _ c.if-states-ne32.false, eq-eqb _ _ c.if-firsts-ne32.false) (
-  c.move_states.ensures.states ∙ states_seen_lem _ _ _ _ _ _ _ _ _ _ c.values_of-values.ensures (ap (16 *◌) c.flow_of-base.ensures.0) c.marks_of-marks.ensures.marks refl,
-  (firsts_kept _ _ _ _ _ c.move_states.ensures.rises c.if-move_states.false, λ t. within_32 _ _ c.values_of-values.ensures c.marks_of-marks.ensures.1.0 c.marks_of-marks.ensures.1.1),
-).1.0; within = rw (le-leb _ _ c.if-r-gt2147483647.false, eq-eqb _ _ c.if-states-ne32.false, eq-eqb _ _ c.if-firsts-ne32.false) (
-  c.move_states.ensures.states ∙ states_seen_lem _ _ _ _ _ _ _ _ _ _ c.values_of-values.ensures (ap (16 *◌) c.flow_of-base.ensures.0) c.marks_of-marks.ensures.marks refl,
-  (firsts_kept _ _ _ _ _ c.move_states.ensures.rises c.if-move_states.false, λ t. within_32 _ _ c.values_of-values.ensures c.marks_of-marks.ensures.1.0 c.marks_of-marks.ensures.1.1),
-).1.1 }
+returns-else-move_states c = record {
+  states = rw (le-leb _ _ c.if-r-gt2147483647.false, eq-eqb _ _ c.if-states-ne32.false, eq-eqb _ _ c.if-firsts-ne32.false) (c.move_states.ensures.states ∙ states_seen_lem _ _ _ _ _ _ _ _ _ _ c.values_of-values.ensures (ap (16 *◌) c.flow_of-base.ensures.0) c.marks_of-marks.ensures.marks refl);
+  firsts = rw (le-leb _ _ c.if-r-gt2147483647.false, eq-eqb _ _ c.if-states-ne32.false, eq-eqb _ _ c.if-firsts-ne32.false) (firsts_kept _ _ _ _ _ c.move_states.ensures.rises c.if-move_states.false);
+  within = rw (le-leb _ _ c.if-r-gt2147483647.false, eq-eqb _ _ c.if-states-ne32.false, eq-eqb _ _ c.if-firsts-ne32.false) (λ t. within_32 _ _ c.values_of-values.ensures c.marks_of-marks.ensures.least c.marks_of-marks.ensures.greatest);
+}

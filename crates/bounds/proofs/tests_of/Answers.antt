@@ -2,15 +2,13 @@ use Rattle.bounds.proofs.Values.{told}
 use Rattle.rules.proofs.Rows.{row_of}
 use Rattle.rules.specs.declared.Row.{Row}
 use mir.Syntax.{w32}
-use mathlib.Core.Path.{◌≡◌, refl, ap, ◌∙◌}
-use borrow.Author.Rules.{rules}
+use mathlib.Core.Path.{refl, ap, ◌∙◌}
 use native.Mathlib.Omega.{arith}
 use Rattle.bounds.specs.Plan.{test_at, tests_of}
-use Rattle.lists.proofs.Laying.{Laying, laying_start, laying_next, laying_end}
+use Rattle.lists.proofs.Laying.{laying_start, laying_next, laying_end}
 use Rattle.limits.specs.Limits.{setting_of}
-use Rattle.rules.specs.Table.{row_at}
 use lib.IntN.{pos}
-use Prim.Native.Nat.{◌-◌, ◌/◌, ◌%◌}
+use Prim.Native.Nat.{◌/◌, ◌%◌}
 use Rattle.bounds.proofs.tests_of.Goals as goal
 
 pub loop-j-init : goal.loop-j-init

@@ -1,12 +1,5 @@
-use Rattle.bounds.proofs.Values.{told}
-use Rattle.rules.proofs.Rows.{row_of}
-use Rattle.rules.specs.declared.Row.{Row}
-use mir.Syntax.{w32}
-use mathlib.Core.Path.{◌≡◌, refl, ap, ◌∙◌}
-use borrow.Author.Rules.{rules}
-use native.Mathlib.Omega.{arith}
-use Rattle.bounds.specs.Plan.{test_at, tests_of}
-use Rattle.lists.proofs.Laying.{Laying, laying_start, laying_next, laying_end}
+use Rattle.bounds.specs.Plan.{test_at}
+use Rattle.lists.proofs.Laying.{Laying}
 use Rattle.limits.specs.Limits.{setting_of}
 use Rattle.rules.specs.Table.{row_at}
 use lib.IntN.{pos}

@@ -4,7 +4,6 @@ use lib.Seq.{set-get_or}
 use lib.ListN.{set, get_or}
 use mathlib.Core.Bool.{Bool, cond}
 use mathlib.Core.Path.{ap, sym, ◌∙◌}
-use borrow.Author.Rules.{rules}
 use Rattle.bounds.proofs.firsts.note_lane.Goals as goal
 
 pub returns-then-is_top : goal.returns-then-is_top

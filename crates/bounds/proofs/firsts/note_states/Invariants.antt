@@ -1,8 +1,5 @@
-use mathlib.Core.Path.{sym, ◌∙◌}
 use Prim.Native.Nat.{◌-◌}
-use borrow.Author.Rules.{rules}
-use native.Mathlib.Omega.{arith}
-use Rattle.bounds.proofs.Noting.{Noting, noting_start, noting_next, noting_end}
+use Rattle.bounds.proofs.Noting.{Noting}
 use Prim.Native.Nat.{◌-◌}
 use Rattle.bounds.proofs.firsts.note_states.Given as goal
 

@@ -4,7 +4,6 @@ use lib.ListN.{set, get_or}
 use mathlib.Core.Bool.{cond}
 use mathlib.Core.Path.{ap, sym, ◌∙◌}
 use Prim.Native.Nat.{ℕ}
-use borrow.Author.Rules.{rules}
 use Rattle.bounds.proofs.lanes.move_lane.Goals as goal
 
 pub returns : goal.returns

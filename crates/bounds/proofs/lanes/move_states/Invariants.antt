@@ -1,8 +1,5 @@
-use mathlib.Core.Path.{sym, ◌∙◌}
 use Prim.Native.Nat.{◌-◌}
-use borrow.Author.Rules.{rules}
-use native.Mathlib.Omega.{arith}
-use Rattle.bounds.proofs.Moving.{Moving, moving_start, moving_next, moving_end}
+use Rattle.bounds.proofs.Moving.{Moving}
 use Rattle.bounds.proofs.lanes.move_states.Given as goal
 
 abbrev pub invariant-loop-i : goal.invariant-loop-i

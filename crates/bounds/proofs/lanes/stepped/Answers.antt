@@ -1,7 +1,6 @@
 use Rattle.rules.specs.Evaluation.{step}
 use borrow.Author.Tests.{lt-ltb, le-ltb}
 use native.Mathlib.Numerals.{add-one}
-use borrow.Author.Rules.{rules}
 use Rattle.bounds.proofs.lanes.stepped.Goals as goal
 
 pub returns-then-trip-gt0 : goal.returns-then-trip-gt0

@@ -1,7 +1,6 @@
 use Rattle.bounds.proofs.Numbers.{none_below, none_above}
 use mir.Syntax.{w32}
 use mir.Facts.{to_z-of_z}
-use borrow.Author.Rules.{rules}
 use Rattle.bounds.proofs.marks.is_above.Goals as goal
 
 pub returns : goal.returns

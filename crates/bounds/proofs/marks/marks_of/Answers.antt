@@ -7,10 +7,10 @@ use lib.ListN.{get_or}
 use lib.Signed.{lt_z}
 use lib.IntN.{ℤ, pos}
 use mathlib.Core.Path.{refl, ap, ap₂, sym, ◌∙◌}
-use Prim.Native.Nat.{◌+◌, ◌-◌}
+use Prim.Native.Nat.{◌+◌}
 use borrow.Author.Rules.{rules}
 use native.Mathlib.Omega.{arith}
-use Rattle.bounds.proofs.Moving.{Marking, marking_start, marking_next, marking_end}
+use Rattle.bounds.proofs.Moving.{marking_start, marking_next, marking_end}
 use Rattle.bounds.proofs.marks.marks_of.Goals as goal
 
 pub loop-i-init : goal.loop-i-init
@@ -20,13 +20,13 @@ pub loop-i-preserved : goal.loop-i-preserved
 loop-i-preserved c = let up : SFits w32 (get_or c.args.tests.now (c.args.base + c.loop-i.i) (pos 0)) = search rules in
     let down : SFits w32 (get_or c.args.tests.now (48 + c.loop-i.i) (pos 0)) = search rules in
     let v : SFits w32 (get_or c.args.values c.loop-i.i (pos 0)) = search rules in
-    let a = (c.is_above.ensures.above, c.is_above.ensures.least, c.is_above.ensures.greatest) in
-    let b = (c.is_above-in-loop-i.ensures.above, c.is_above-in-loop-i.ensures.least, c.is_above-in-loop-i.ensures.greatest) in
+    let a = c.is_above.ensures in
+    let b = c.is_above-in-loop-i.ensures in
     marking_next _ _ _ _ _ _ c.loop-i.invariant c.loop-i-test.true
-    (a.0 ∙ ap₂ (λ (x y : ℤ). mark (lt_z x y)) (to_z-of_z up) (to_z-of_z v))
-    (ap (lt_z greatest32) (sym (to_z-of_z v)) ∙ a.1.1)
-    (b.0 ∙ ap₂ (λ (x y : ℤ). mark (lt_z x y)) (to_z-of_z v) (to_z-of_z down))
-    (ap (λ (x : ℤ). lt_z x least32) (sym (to_z-of_z v)) ∙ b.1.0)
+    (a.above ∙ ap₂ (λ (x y : ℤ). mark (lt_z x y)) (to_z-of_z up) (to_z-of_z v))
+    (ap (lt_z greatest32) (sym (to_z-of_z v)) ∙ a.greatest)
+    (b.above ∙ ap₂ (λ (x y : ℤ). mark (lt_z x y)) (to_z-of_z v) (to_z-of_z down))
+    (ap (λ (x : ℤ). lt_z x least32) (sym (to_z-of_z v)) ∙ b.least)
 
 pub returns : goal.returns
 returns c = let m = c.loop-i.invariant in

@@ -1,6 +1,5 @@
 use Rattle.bounds.specs.Plan.{counts}
 use mathlib.Core.Path.{refl}
-use borrow.Author.Rules.{rules}
 use Rattle.bounds.proofs.plan.counts_in.Goals as goal
 
 pub returns-in-HighestCell : goal.returns-in-HighestCell

@@ -1,11 +1,10 @@
 use Rattle.bounds.proofs.Values.{told}
-use Rattle.bounds.specs.Plan.{along, counts, test_at}
+use Rattle.bounds.specs.Plan.{along, test_at}
 use borrow.Author.Tests.{lt-ltb, le-ltb}
 use mir.Facts.{to_z-of_z}
 use mir.Val.{SFits}
 use mir.Syntax.{w32}
-use mathlib.Core.Bool.{true, false}
-use mathlib.Core.Path.{◌≡◌, refl, ap, sym, ◌∙◌}
+use mathlib.Core.Path.{refl, ap, sym, ◌∙◌}
 use borrow.Author.Rules.{rules}
 use Rattle.bounds.proofs.plan.test_at.Goals as goal
 

@@ -1,7 +1,6 @@
 use native.Mathlib.Omega.{arith}
 use mir.Facts.{to_z_pos}
 use mir.Syntax.{w32}
-use borrow.Author.Rules.{rules}
 use Rattle.bounds.proofs.reading.of_sum.Goals as goal
 
 pub returns : goal.returns

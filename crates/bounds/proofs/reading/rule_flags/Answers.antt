@@ -1,10 +1,8 @@
 use Rattle.flags.specs.Flags.{flag_of}
-use Rattle.flags.specs.declared.RuleFlags.{RuleFlags}
 use Rattle.flags.specs.declared.Flag.{Flag}
 use mathlib.Core.Bool.{Bool, not}
 use mathlib.Core.Bool.{not}
 use mathlib.Core.Path.{ap₂, ◌∙◌}
-use borrow.Author.Rules.{rules}
 use Rattle.flags.proofs.OutputLaws.{by_number}
 use Rattle.bounds.proofs.reading.rule_flags.Goals as goal
 

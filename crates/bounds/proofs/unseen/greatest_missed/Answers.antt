@@ -2,7 +2,6 @@ use Prim.Native.Nat.{◌+◌, ◌-◌, min}
 use mathlib.Core.Path.{◌≡◌}
 use native.Mathlib.Omega.{arith}
 use borrow.Author.Tests.{eq-eqb, ne_eqb}
-use borrow.Author.Rules.{rules}
 use Rattle.bounds.proofs.unseen.greatest_missed.Goals as goal
 
 pub returns-then-n-eq0 : goal.returns-then-n-eq0

@@ -1,4 +1,3 @@
-use borrow.Author.Rules.{rules}
 use Rattle.bounds.proofs.unseen.tick_of.Goals as goal
 
 pub returns-then-row : goal.returns-then-row

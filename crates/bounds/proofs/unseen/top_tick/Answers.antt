@@ -4,9 +4,7 @@ use Rattle.lists.proofs.Bools.{by_order}
 use Rattle.rules.specs.Evaluation.{evaluations}
 use borrow.Author.Tests.{lt-ltb, le-ltb, le-leb, lt-leb}
 use native.Mathlib.Omega.{arith}
-use mathlib.Core.Path.{◌≡◌, ap, sym, ◌∙◌}
-use Prim.Native.Nat.{ℕ, suc, ◌-◌, ◌<◌, ◌≤◌}
-use borrow.Author.Rules.{rules}
+use Prim.Native.Nat.{suc, ◌-◌, ◌<◌, ◌≤◌}
 use Rattle.bounds.proofs.unseen.top_tick.Goals as goal
 
 pub overflow_cast-result : goal.overflow_cast-result
