@@ -11,7 +11,7 @@ returns-then-buffer-ne187 c = let a = c.args in
     let other : length a.buffer.now ≡ 187 → ⊥ = λ e. omega arith in record { answer = report_refused a.buffer.now other; bytes = report_kept a.flags.of a.firsts.of a.totals a.buffer.now other }
 
 pub returns : goal.returns
-returns c = let whole = c.if-buffer-ne187.false in let p = (
-  report_answered c.args.buffer.now whole,
-  report_written _ _ _ _ _ whole (put_then (put_then c.put_rules.ensures c.put_outputs.ensures) c.put_totals.ensures),
-) in record { answer = p.0; bytes = p.1 }
+returns c = let whole = c.if-buffer-ne187.false in record {
+  answer = report_answered c.args.buffer.now whole;
+  bytes = report_written _ _ _ _ _ whole (put_then (put_then c.put_rules.ensures c.put_outputs.ensures) c.put_totals.ensures);
+}

@@ -12,7 +12,7 @@ use Rattle.verdicts.proofs.judge_current.Goals as goal
 pub returns-in-Seen : goal.returns-in-Seen
 returns-in-Seen c = let a = c.args in
     let z = c.in-Seen.current in
-    let f : SFits w16 z = search (rules, c.known_told-1.given) in
+    let f : SFits w16 z = search rules in
     c.agrees.ensures
     ∙ ap (λ (x : Bool). answer (cond x 4 5)) (c.same_current.ensures ∙ ap (same_z (to_z w16 a.word)) (to_z-of_z w16 z f))
     ∙ ap (λ (t : Tick). answer (current_verdict t a.word)) (sym c.in-Seen.is)
