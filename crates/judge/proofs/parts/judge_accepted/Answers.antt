@@ -31,8 +31,8 @@ slice_bounds-judge_parts-start-3 c = (parts _ _ _ _ c.requires.0).samples
 
 pub judge_parts-requires : goal.judge_parts-requires
 judge_parts-requires c = let pre = c.requires in
-    is_parts _ _ _ _ pre.0 (λ i. omega (arith, c.shared_slice_known-1.given i)) _ pre.2
+    is_parts _ _ _ _ pre.0 (λ i. omega (arith, c.type_inv.s i)) _ pre.2
 
 pub returns : goal.returns
 returns c = let pre = c.requires in
-    let e = (c.judge_parts.ensures.report, c.judge_parts.ensures.verdicts) in record { report = e.0 ∙ report_is _ _ _ _ pre.0 (λ i. omega (arith, c.shared_slice_known-1.given i)) _ pre.1; verdicts = e.1 ∙ verdicts_are _ _ _ _ pre.0 }
+    let e = (c.judge_parts.ensures.report, c.judge_parts.ensures.verdicts) in record { report = e.0 ∙ report_is _ _ _ _ pre.0 (λ i. omega (arith, c.type_inv.s i)) _ pre.1; verdicts = e.1 ∙ verdicts_are _ _ _ _ pre.0 }

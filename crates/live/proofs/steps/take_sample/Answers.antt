@@ -6,15 +6,9 @@ use Rattle.live.proofs.Stepping.{refuses, unread, read}
 use borrow.Author.Rules.{rules}
 use Rattle.live.proofs.steps.take_sample.Goals as goal
 
--- What is read of the sample, its numbers as the code holds them.
-reads : (c : goal.After-read_sample) → answer_of_read c.read_sample.result
-    ≡ read_answer c.args.state.cells (record { current = c.args.current; board = c.args.board; volts = c.args.volts.now; temps = c.args.temps.now })
-reads c =
-    rw (to_z-of_z w16 c.args.current c.ranges.current, to_z-of_z w16 c.args.board c.ranges.board) at c.read_sample.ensures
-
 pub returns-in-Refused : goal.returns-in-Refused
-returns-in-Refused c = refuses c.refuse.ensures (unread _ _ _ c.requires (sym (ap answer_of_read c.in-Refused.is) ∙ reads c))
+returns-in-Refused c = refuses c.refuse.ensures (unread _ _ _ c.requires (sym (ap answer_of_read c.in-Refused.is) ∙ (rw (to_z-of_z w16 c.args.current c.ranges.current, to_z-of_z w16 c.args.board c.ranges.board) at c.read_sample.ensures)))
 
 pub returns-in-Taken : goal.returns-in-Taken
-returns-in-Taken c = let (r, t) = read c.args.state c.args.tick _ c.requires (sym (ap answer_of_read c.in-Taken.is) ∙ reads c) in
+returns-in-Taken c = let (r, t) = read c.args.state c.args.tick _ c.requires (sym (ap answer_of_read c.in-Taken.is) ∙ (rw (to_z-of_z w16 c.args.current c.ranges.current, to_z-of_z w16 c.args.board c.ranges.board) at c.read_sample.ensures)) in
     rw t (c.take_readings.ensures _ (sym (to_z-of_z w16 c.args.current c.ranges.current)) r)

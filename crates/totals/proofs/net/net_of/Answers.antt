@@ -6,9 +6,6 @@ use Rattle.totals.specs.Totals.{answer_of_net}
 use Rattle.totals.proofs.AcceptedTotals.{Totalled, parts, totalled, between_same}
 use Rattle.totals.proofs.net.net_of.Goals as goal
 
-totals : (c : goal.After-shared_slice_known-1) → Totalled c.args.s.now c.args.l
-totals c = totalled _ _ c.requires (λ i. omega (arith, c.shared_slice_known-1.given i))
-
 pub slice_bounds-count_unseen-count : goal.slice_bounds-count_unseen-count
 slice_bounds-count_unseen-count c = holes_start (parts _ _ c.requires)
 
@@ -25,9 +22,9 @@ pub slice_bounds-sum_charge-start : goal.slice_bounds-sum_charge-start
 slice_bounds-sum_charge-start c = (parts _ _ c.requires).samples
 
 pub bounds-requires : goal.bounds-requires
-bounds-requires c = let t = totals c in
+bounds-requires c = let t = (totalled _ _ c.requires (λ i. omega (arith, c.type_inv.s i))) in
     (omega (arith, c.sum_charge-charge.ensures.inwards, t.small_in), omega (arith, c.sum_charge-charge.ensures.outwards, t.small_out), rw c.count_unseen-unseen.ensures t.small_unseen)
 
 pub returns : goal.returns
 returns c = ap answer_of_net (c.bounds.ensures ∙ between_same c.sum_charge-charge.ensures.inwards c.sum_charge-charge.ensures.outwards c.count_unseen-unseen.ensures)
-    ∙ (totals c).net
+    ∙ ((totalled _ _ c.requires (λ i. omega (arith, c.type_inv.s i)))).net
