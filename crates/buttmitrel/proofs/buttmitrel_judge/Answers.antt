@@ -5,7 +5,7 @@ use Rattle.buttmitrel.specs.Code.{code_of}
 use Rattle.buttmitrel.proofs.buttmitrel_judge.Goals as goal
 
 pub returns-in-Accepted : goal.returns-in-Accepted
-returns-in-Accepted c = let e = (c.judge.ensures.answer, c.judge.ensures.report, c.judge.ensures.verdicts) in let p = (ap code_of (sym (ap answer_of_judged c.in-Accepted.is) ∙ e.0), e.1) in record { answer = p.0; report = p.1.0; verdicts = p.1.1 }
+returns-in-Accepted c = let p = (ap code_of (sym (ap answer_of_judged c.in-Accepted.is) ∙ c.judge.ensures.answer), e.1) in record { answer = p.0; report = p.1.0; verdicts = p.1.1 }
 
 pub returns-in-Refused : goal.returns-in-Refused
-returns-in-Refused c = let e = (c.judge.ensures.answer, c.judge.ensures.report, c.judge.ensures.verdicts) in let p = (c.code.ensures ∙ ap code_of (sym (ap answer_of_judged c.in-Refused.is) ∙ e.0), e.1) in record { answer = p.0; report = p.1.0; verdicts = p.1.1 }
+returns-in-Refused c = let p = (c.code.ensures ∙ ap code_of (sym (ap answer_of_judged c.in-Refused.is) ∙ c.judge.ensures.answer), e.1) in record { answer = p.0; report = p.1.0; verdicts = p.1.1 }

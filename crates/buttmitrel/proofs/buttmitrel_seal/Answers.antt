@@ -5,7 +5,7 @@ use borrow.Author.Rules.{rules}
 use Rattle.buttmitrel.proofs.buttmitrel_seal.Goals as goal
 
 pub returns-in-Written : goal.returns-in-Written
-returns-in-Written c = let e = (c.seal.ensures.answer, c.seal.ensures.bytes) in record { answer = ap code_of (sym (ap answer_of_seal c.in-Written.is) ∙ e.0); bytes = e.1 }
+returns-in-Written c = record { answer = ap code_of (sym (ap answer_of_seal c.in-Written.is) ∙ c.seal.ensures.answer); bytes = c.seal.ensures.bytes }
 
 pub returns-in-Refused : goal.returns-in-Refused
-returns-in-Refused c = let e = (c.seal.ensures.answer, c.seal.ensures.bytes) in record { answer = c.code.ensures ∙ ap code_of (sym (ap answer_of_seal c.in-Refused.is) ∙ e.0); bytes = e.1 }
+returns-in-Refused c = record { answer = c.code.ensures ∙ ap code_of (sym (ap answer_of_seal c.in-Refused.is) ∙ c.seal.ensures.answer); bytes = c.seal.ensures.bytes }

@@ -16,8 +16,7 @@ returns-in-Refused c = let a = c.args in let p = left_by_buffers a.s.now a.repor
 pub judge_accepted-requires : goal.judge_accepted-requires
 judge_accepted-requires c = let a = c.args in
     let fits = sym (ap answer_of_judged c.in_default.is) ∙ c.check_buffers.ensures in
-    let e = (c.accept-accepted.ensures.answer, c.accept-accepted.ensures.layout, c.accept-accepted.ensures.settings) in
-    let whole = accepted_whole (accept_answer a.s.now) (sym (ap answer_of_accept c.in-Covered.is) ∙ e.0) e.1.0 e.1.1 in
+    let whole = accepted_whole (accept_answer a.s.now) (sym (ap answer_of_accept c.in-Covered.is) ∙ c.accept-accepted.ensures.answer) c.accept-accepted.ensures.layout c.accept-accepted.ensures.settings in
     let f = fit a.s.now (length a.report.now) (length a.verdicts.now) fits in
     (whole, f.long, f.counted ∙ same_count a.s.now f.walked whole)
 
@@ -28,6 +27,5 @@ returns-in-Refused-answer c = let a = c.args in
 pub returns-in-Covered : goal.returns-in-Covered
 returns-in-Covered c = let a = c.args in
     let fits = sym (ap answer_of_judged c.in_default.is) ∙ c.check_buffers.ensures in
-    let e = (c.accept-accepted.ensures.answer, c.accept-accepted.ensures.layout, c.accept-accepted.ensures.settings) in
-    let whole = accepted_whole (accept_answer a.s.now) (sym (ap answer_of_accept c.in-Covered.is) ∙ e.0) e.1.0 e.1.1 in
-    let j = (c.judge_accepted.ensures.report, c.judge_accepted.ensures.verdicts) in let p = filled a.s.now a.report.now a.verdicts.now (λ w. trace_report (trace_of a.s.now w)) (λ w. trace_verdicts (trace_of a.s.now w)) fits whole j.0 j.1 in record { answer = p.0; report = p.1.0; verdicts = p.1.1 }
+    let whole = accepted_whole (accept_answer a.s.now) (sym (ap answer_of_accept c.in-Covered.is) ∙ c.accept-accepted.ensures.answer) c.accept-accepted.ensures.layout c.accept-accepted.ensures.settings in
+    let p = filled a.s.now a.report.now a.verdicts.now (λ w. trace_report (trace_of a.s.now w)) (λ w. trace_verdicts (trace_of a.s.now w)) fits whole c.judge_accepted.ensures.report c.judge_accepted.ensures.verdicts in record { answer = p.0; report = p.1.0; verdicts = p.1.1 }

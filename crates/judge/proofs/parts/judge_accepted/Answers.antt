@@ -35,4 +35,4 @@ judge_parts-requires c = let pre = c.requires in
 
 pub returns : goal.returns
 returns c = let pre = c.requires in
-    let e = (c.judge_parts.ensures.report, c.judge_parts.ensures.verdicts) in record { report = e.0 ∙ report_is _ _ _ _ pre.0 (λ i. omega (arith, c.type_inv.s i)) _ pre.1; verdicts = e.1 ∙ verdicts_are _ _ _ _ pre.0 }
+    record { report = c.judge_parts.ensures.report ∙ report_is _ _ _ _ pre.0 (λ i. omega (arith, c.type_inv.s i)) _ pre.1; verdicts = c.judge_parts.ensures.verdicts ∙ verdicts_are _ _ _ _ pre.0 }

@@ -14,5 +14,4 @@ judge_records-requires c = let g = c.requires in
     (planned, stop_start g planned refl refl e, rw e (omega arith), (g.ticks_of_replies, g.count, g.few))
 
 pub returns : goal.returns
-returns c = let r = (c.judge_records.ensures.known, c.judge_records.ensures.verdicts) in
-    let planned : Planned c.args.f c.tests_of-tests.result c.lanes_of-lanes.result = record { tests = c.tests_of-tests.ensures; lanes = c.lanes_of-lanes.ensures } in record { report = report_end c.requires planned _ r.0 c.totals_of-totals.ensures c.write_end.ensures; verdicts = r.1 }
+returns c = let planned : Planned c.args.f c.tests_of-tests.result c.lanes_of-lanes.result = record { tests = c.tests_of-tests.ensures; lanes = c.lanes_of-lanes.ensures } in record { report = report_end c.requires planned _ c.judge_records.ensures.known c.totals_of-totals.ensures c.write_end.ensures; verdicts = c.judge_records.ensures.verdicts }
