@@ -1,7 +1,9 @@
 use mathlib.Core.Path.{sym, ap, ◌∙◌}
 use Rattle.totals.specs.Totals.{answer_of_net}
 use Rattle.buttmitrel.proofs.Codes.{refused_two, refused_net, two_written}
-use borrow.Author.Rules.{rules, sfits_of}
+use mir.Syntax.{w64}
+use mir.Val.{SFits}
+use borrow.Author.Rules.{rules}
 use Rattle.buttmitrel.proofs.buttmitrel_net_charge.Goals as goal
 
 pub returns-then-bounds-ne2 : goal.returns-then-bounds-ne2
@@ -11,5 +13,8 @@ pub returns-in-Refused : goal.returns-in-Refused
 returns-in-Refused c = let p = refused_net _ _ c.code.ensures (sym (ap answer_of_net c.in-Refused.is) ∙ c.net_charge.ensures) in record { answer = p.0; bounds = p.1 }
 
 pub returns-else-bounds-ne2 : goal.returns-else-bounds-ne2
-returns-else-bounds-ne2 c = let f = c.known_told-in let p = -Between-1.given in
-    two_written _ _ _ _ c.if-bounds-ne2.false (sfits_of f.0.1) (sfits_of f.1.0.1) (sym (ap answer_of_net c.in-Between.is) ∙ c.net_charge.ensures) in record { answer = p.0; bounds = p.1 }
+returns-else-bounds-ne2 c =
+    let f : SFits w64 c.in-Between.least = search rules in
+    let g : SFits w64 c.in-Between.greatest = search rules in
+    let p = two_written _ _ _ _ c.if-bounds-ne2.false f g (sym (ap answer_of_net c.in-Between.is) ∙ c.net_charge.ensures) in
+    record { answer = p.0; bounds = p.1 }

@@ -13,4 +13,4 @@ returns-in-Refused c = let b = c.args in
 pub returns-in-Taken : goal.returns-in-Taken
 returns-in-Taken c = let b = c.args in
     let s = state_of b.cells b.idle b.rules.now b.words.now b.totals.now in
-    let p = feeds b.words.now b.totals.now b.rules.now (λ y. hole_answer y b.last) (λ y. with_hole y b.last) s (c.load-kept.ensures.kept c.in-Taken.is) c.hole-step.ensures.answer c.hole-step.ensures.state (c.store.ensures.answer, c.store.ensures.words, c.store.ensures.totals) in record { answer = p.0; words = p.1.0; totals = p.1.1 }
+    let p = feeds b.words.now b.totals.now b.rules.now (λ y. hole_answer y b.last) (λ y. with_hole y b.last) s (c.load-kept.ensures.kept c.in-Taken.is) c.hole-step.ensures.answer c.hole-step.ensures.state (c.store.ensures.answer, (c.store.ensures.words, c.store.ensures.totals)) in record { answer = p.0; words = p.1.0; totals = p.1.1 }

@@ -19,4 +19,6 @@ returns-in-Taken c = let b = c.args in
     let s = state_of b.cells b.idle b.rules.now b.words.now b.totals.now in
     let x : Sample = record { current = b.current; board = b.board; volts = b.volts.now; temps = b.temps.now } in
     let f = c.ranges in
-    let e = rw (to_z-of_z w16 b.current f.current, to_z-of_z w16 b.board f.board) at (c.sample-step.ensures.answer, c.sample-step.ensures.state) in let p = feeds b.words.now b.totals.now b.rules.now (λ y. sample_answer y b.tick x) (λ y. with_sample y x) s (c.load-kept.ensures.kept c.in-Taken.is) e.0 e.1 (c.store.ensures.answer, c.store.ensures.words, c.store.ensures.totals) in record { answer = p.0; words = p.1.0; totals = p.1.1 }
+    let e = rw (to_z-of_z w16 b.current f.current, to_z-of_z w16 b.board f.board) at c.sample-step.ensures.answer in
+    let g = rw (to_z-of_z w16 b.current f.current, to_z-of_z w16 b.board f.board) at c.sample-step.ensures.state in
+    let p = feeds b.words.now b.totals.now b.rules.now (λ y. sample_answer y b.tick x) (λ y. with_sample y x) s (c.load-kept.ensures.kept c.in-Taken.is) e g (c.store.ensures.answer, (c.store.ensures.words, c.store.ensures.totals)) in record { answer = p.0; words = p.1.0; totals = p.1.1 }

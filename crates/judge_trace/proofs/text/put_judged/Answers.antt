@@ -22,8 +22,8 @@ put_accepted-requires c = let counted = length-take-le c.args.n c.buffer-space.r
 pub returns-in-Refused : goal.returns-in-Refused
 returns-in-Refused c = let s = c.args.s.now in
     let out = c.args.out.now in
-    let counted = length-take-le c.args.n c.buffer-space.result (omega (arith, c.requires.1, c.buffer-space.ensures)) in let p = stands_as out _ (lines_of s (accept_answer s)) (judged_refused s (replicate 187 0) (take c.args.n c.buffer-space.result) refl (ap answer counted ∙ c.requires.2) _ _ (sym (ap answer_of_judged c.in-Refused.is) ∙ c.judge.ensures.answer)) (refusal_stands out _ _ c.requires.0 (c.put_refusal.ensures.put, c.put_refusal.ensures.bytes, c.put_refusal.ensures.counts)) in record { value = p.0; out_after = p.1.0; prefix_len = p.1.1 }
+    let counted = length-take-le c.args.n c.buffer-space.result (omega (arith, c.requires.1, c.buffer-space.ensures)) in let p = stands_as out _ (lines_of s (accept_answer s)) (judged_refused s (replicate 187 0) (take c.args.n c.buffer-space.result) refl (ap answer counted ∙ c.requires.2) _ _ (sym (ap answer_of_judged c.in-Refused.is) ∙ c.judge.ensures.answer)) (refusal_stands out _ _ c.requires.0 (c.put_refusal.ensures.put, (c.put_refusal.ensures.bytes, c.put_refusal.ensures.counts))) in record { value = p.0; out_after = p.1.0; prefix_len = p.1.1 }
 
 pub returns-in-Accepted : goal.returns-in-Accepted
 returns-in-Accepted c = let s = c.args.s.now in
-    let counted = length-take-le c.args.n c.buffer-space.result (omega (arith, c.requires.1, c.buffer-space.ensures)) in let p = stands_as c.args.out.now _ (lines_of s (accept_answer s)) (ap₂ accepted_lines c.judge.ensures.report c.judge.ensures.verdicts ∙ judged_accepted s (replicate 187 0) (take c.args.n c.buffer-space.result) refl (ap answer counted ∙ c.requires.2) (sym (ap answer_of_judged c.in-Accepted.is) ∙ c.judge.ensures.answer)) (c.put_accepted.ensures.value, c.put_accepted.ensures.out_after, c.put_accepted.ensures.prefix_len) in record { value = p.0; out_after = p.1.0; prefix_len = p.1.1 }
+    let counted = length-take-le c.args.n c.buffer-space.result (omega (arith, c.requires.1, c.buffer-space.ensures)) in let p = stands_as c.args.out.now _ (lines_of s (accept_answer s)) (ap₂ accepted_lines c.judge.ensures.report c.judge.ensures.verdicts ∙ judged_accepted s (replicate 187 0) (take c.args.n c.buffer-space.result) refl (ap answer counted ∙ c.requires.2) (sym (ap answer_of_judged c.in-Accepted.is) ∙ c.judge.ensures.answer)) (c.put_accepted.ensures.value, (c.put_accepted.ensures.out_after, c.put_accepted.ensures.prefix_len)) in record { value = p.0; out_after = p.1.0; prefix_len = p.1.1 }
