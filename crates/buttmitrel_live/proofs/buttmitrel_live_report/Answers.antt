@@ -11,5 +11,5 @@ returns-in-Refused c = let a = c.args in
 
 pub returns-in-Taken : goal.returns-in-Taken
 returns-in-Taken c = let a = c.args in
-    let k = c.load-kept.ensures.kept c.in let p = -Taken.is in
-    report_kept a.rules.now a.totals.now (state_of a.cells a.idle a.rules.now a.words.now a.totals.now) a.report.now k.0 k.3 (c.report_state.ensures.answer, c.report_state.ensures.bytes) in record { answer = p.0; report = p.1 }
+    let k = c.load-kept.ensures.kept c.in-Taken.is in
+    let p = report_kept a.rules.now a.totals.now (state_of a.cells a.idle a.rules.now a.words.now a.totals.now) a.report.now k.0 k.3 (c.report_state.ensures.answer, c.report_state.ensures.bytes) in record { answer = p.0; report = p.1 }
