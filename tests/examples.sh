@@ -2,7 +2,7 @@
 # The captures of examples/: each text assembles to its trace and comes back, the program and `explain` answer what is written
 # down. Then the assembler's messages, the explaining by itself, and 2,000 random byte strings to text and back from a printed seed.
 set -u
-PROGRAM=${PROGRAM:-target/bin/judge_trace}
+PROGRAM=${PROGRAM:-crates/judge_trace/out/judge_trace}
 out=target/examples
 failed=0 checks=0
 

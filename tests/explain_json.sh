@@ -2,7 +2,7 @@
 # What explain says as JSON, of the examples and of 400 generated traces from a printed seed: python3 parses it and compares every
 # number with the bytes of trace and answer, every word with the text, and docs/JSON.md with both (tests/explain_json.py).
 set -u
-judge=${PROGRAM:-target/bin/judge_trace}
+judge=${PROGRAM:-crates/judge_trace/out/judge_trace}
 explain=target/tools/explain
 second=target/tools/second
 out=target/explain_json

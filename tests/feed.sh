@@ -3,8 +3,8 @@
 # eight lengths, from a printed seed. What the judge refuses the feed refuses with the same line; what it accepts has the same
 # report, where the feed has ff for every first tick and no verdicts.
 set -u
-judge=${PROGRAM:-target/bin/judge_trace}
-feed=${FEED:-target/bin/feed_trace}
+judge=${PROGRAM:-crates/judge_trace/out/judge_trace}
+feed=${FEED:-crates/feed_trace/out/feed_trace}
 second=target/tools/second
 out=target/feed
 seed=${SEED:-$RANDOM}

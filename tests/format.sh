@@ -2,7 +2,7 @@
 # docs/FORMAT.md: its examples are judged, the calls of its recorder carried out, and its tables compared with the code.
 set -u
 cd "$(dirname "$0")/.." || exit 1
-program=${PROGRAM:-target/bin/judge_trace}
+program=${PROGRAM:-crates/judge_trace/out/judge_trace}
 
 if ! [ -x "$program" ]; then
     echo "format: there is no $program"

@@ -1,13 +1,14 @@
 #!/usr/bin/env bash
 # The command ./buttmitrel: what each verb answers and with what status, its one-line messages, several files, names of every kind, calls
-# from another folder and through links, and the examples of its help, which are run.
+# from another folder and through links, and the examples of its help, which are run. It works outside the repository, where rt ci refuses
+# links.
 set -u
 root=$PWD
-out=$root/target/front_door
 door=$root/buttmitrel
 checks=0 failed=0
 
-rm -rf "$out"
+out=$(mktemp -d) || exit 1
+trap 'rm -rf "$out"' EXIT
 mkdir -p "$out/elsewhere" "$out/folder" "$out/home" || exit 1
 cp examples/*.trace examples/*.answer examples/refused/09_coverage.* "$out"
 cd "$out" || exit 1
@@ -50,9 +51,9 @@ for name in clean_charge e_bike_trip hidden_over_voltage latched_fuse overnight_
     gives 0 $name.trace "$door" assemble "$root/examples/$name.txt"
     "$door" disassemble $name.trace >text
     gives 0 $name.trace "$door" assemble text
-    "$root/target/bin/records" <$name.trace >records
+    "$root/crates/records/out/records" <$name.trace >records
     gives 0 records "$door" records $name.trace
-    "$root/target/bin/feed_trace" <$name.trace >fed
+    "$root/crates/feed_trace/out/feed_trace" <$name.trace >fed
     gives 0 fed "$door" feed $name.trace
 done
 gives 1 09_coverage.answer "$door" judge 09_coverage.trace
@@ -133,7 +134,7 @@ microseconds() { # COMMAND...: the least of three runs
 }
 alone() {
     local trace
-    for trace in "${thousand[@]}"; do "$root/target/bin/judge_trace" <"$trace"; done
+    for trace in "${thousand[@]}"; do "$root/crates/judge_trace/out/judge_trace" <"$trace"; done
 }
 thousand=()
 while [ "${#thousand[@]}" -lt 1000 ]; do
@@ -179,12 +180,13 @@ done
 
 # From another folder, by another name, and by the short form.
 cd elsewhere || exit 1
-ln -s ../../../buttmitrel link
-ln -s ../../../judge short
-for command in ./short ../../../judge "$root/judge"; do
+up=$(realpath --relative-to=. "$root")
+ln -s "$up/buttmitrel" link
+ln -s "$up/judge" short
+for command in ./short "$up/judge" "$root/judge"; do
     gives 0 ../clean_charge.answer "$command" ../clean_charge.trace
 done
-for command in ./link ../../../buttmitrel; do
+for command in ./link "$up/buttmitrel"; do
     gives 0 ../clean_charge.answer "$command" judge ../clean_charge.trace
 done
 gives 1 ../09_coverage.answer ./short <../09_coverage.trace

@@ -82,7 +82,7 @@ for name in examples/*.txt; do
 done
 same 1 examples/refused/09_coverage.answer judge "$root/examples/refused/09_coverage.trace"
 same 1 examples/refused/09_coverage.answer feed "$root/examples/refused/09_coverage.trace"
-target/bin/records <examples/e_bike_trip.trace >"$out/records"
+crates/records/out/records <examples/e_bike_trip.trace >"$out/records"
 same 0 "$out/records" records "$root/examples/e_bike_trip.trace"
 ./buttmitrel version >"$out/version"
 same 0 "$out/version" version

@@ -2,7 +2,7 @@
 # The program that judges traces, and the plain judge beside it: traces with answers written down by hand from paper 01, then
 # 3,000 random traces from a printed seed, on which both must write the same.
 set -u
-program=${PROGRAM:-target/bin/judge_trace}
+program=${PROGRAM:-crates/judge_trace/out/judge_trace}
 plain=target/tools/cases_plain_judge
 hand=target/judge_cases/hand
 random=target/judge_cases/random

@@ -4,7 +4,7 @@ set -eu
 mkdir -p target/tools
 tools/compile cases/crc8
 second=target/tools/cases_crc8
-first=target/bin/pec_vectors
+first=crates/pec_vectors/out/pec_vectors
 same() { # FILE: both programs write the same codes of its messages
     cmp <("$first" <"$1") <("$second" <"$1")
 }

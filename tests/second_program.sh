@@ -3,7 +3,7 @@
 # program and the proved library, on traces, on a recorder's calls and on lists of voltages from a printed seed. SEED, SLOW_TRACES,
 # TRACES, HISTORIES and LISTS choose them.
 set -eu
-program=target/bin/judge_trace
+program=crates/judge_trace/out/judge_trace
 tool=target/tools/second
 seed=${SEED:-$RANDOM}
 

@@ -3,34 +3,22 @@ unset CDPATH
 home=$(cd "${BASH_SOURCE[0]%/*}/.." && pwd)
 . "$home/tools/prove.sh"
 
-# The crates that these crates name.
-named_by() { # CRATE...
-    crates_below "$@" | awk -v crates="$*" '
-        BEGIN { split(crates, list, " "); for (i in list) wanted[list[i]] }
-        $1 in wanted { for (i = 2; i <= NF; i++) print $i }' | sort -u
-}
-
 # Builds target/lib/libbuttmitrel.a and libbuttmitrel.so where they are missing or older than a source.
 library() {
     if is_old "$home/target/lib/libbuttmitrel.so"; then alone build_library; fi
 }
 
 # Judge, live feed and recorder are compiled apart, which keeps the judge fast, and their objects put together.
-compiled_apart=(buttmitrel buttmitrel_live buttmitrel_recorder)
+compiled_apart=(buttmitrel_c buttmitrel_live_c buttmitrel_recorder_c)
 
 build_library() {
-    local crate lib=$home/target/lib log
+    local crate lib=$home/target/lib
     is_old "$lib/libbuttmitrel.so" || return 0
-    mkdir -p "$lib" && touch "$lib/begun" && prove 'the library' $(named_by "${compiled_apart[@]}") || return 2
-    announce 'compiling the library'
+    mkdir -p "$lib" && touch "$lib/begun" || return 2
     for crate in "${compiled_apart[@]}"; do
-        log=target/prove/$crate/log
-        if ! { make_folder "$crate" && (run_rt "$crate" staticlib "$crate") && cd "$lib" && ar x "../staticlib/lib$crate.a" "$crate.o"; }; then
-            announce "the library is not built; $log says why"
-            return 2
-        fi
+        build "$crate" lib "lib$crate.a" && (cd "$lib" && ar x "$home/crates/$crate/out/lib$crate.a" "$crate.o") || return 2
     done
-    link_library && touch -c -r "$lib/begun" "$lib/libbuttmitrel.so"
+    (cd "$lib" && link_library) && touch -c -r "$lib/begun" "$lib/libbuttmitrel.so"
 }
 
 # From the objects in the folder; the C library's symbols are all that they take from elsewhere.

@@ -1,4 +1,4 @@
-// The library for programs in C and Rust (include/buttmitrel.h): each call answers a number below
+// The library for programs in C and Rust (include/buttmitrel.h), which `buttmitrel_c` exports: each call answers a number below
 // 4,294,967,296, which is 0, a verdict or a count, or the number of a refusal times 4,294,967,296 plus its place.
 #![tactic(auto)]
 
@@ -26,8 +26,7 @@ pub fn code(why: Refusal) -> u64
 }
 
 // Judges a trace into a report of 187 bytes and a verdict buffer as long as its reply count.
-#[unsafe(no_mangle)]
-pub extern "C" fn buttmitrel_judge(s: &[u8], report: &mut [u8], verdicts: &mut [u8]) -> u64
+pub fn buttmitrel_judge(s: &[u8], report: &mut [u8], verdicts: &mut [u8]) -> u64
     ensures answer { result ≡ code_of (judge_answer s.now report.old verdicts.old) }
     ensures report { report.new ≡ report_after s.now report.old verdicts.old }
     ensures verdicts { verdicts.new ≡ verdicts_after s.now report.old verdicts.old }
@@ -39,8 +38,7 @@ pub extern "C" fn buttmitrel_judge(s: &[u8], report: &mut [u8], verdicts: &mut [
 }
 
 // The reply count of a trace, or the refusal of the walk over its sections.
-#[unsafe(no_mangle)]
-pub extern "C" fn buttmitrel_reply_count(s: &[u8]) -> u64
+pub fn buttmitrel_reply_count(s: &[u8]) -> u64
     ensures { result ≡ value_code (reply_count (walk_answer s.now)) }
 {
     match trace::reply_count(s) {
@@ -50,8 +48,7 @@ pub extern "C" fn buttmitrel_reply_count(s: &[u8]) -> u64
 }
 
 // Writes the six bytes of a read-word reply.
-#[unsafe(no_mangle)]
-pub extern "C" fn buttmitrel_seal(command: u8, word: u16, reply: &mut [u8]) -> u64
+pub fn buttmitrel_seal(command: u8, word: u16, reply: &mut [u8]) -> u64
     ensures answer { result ≡ code_of (seal_answer reply.old) }
     ensures bytes { reply.new ≡ sealed command word reply.old }
 {
@@ -62,8 +59,7 @@ pub extern "C" fn buttmitrel_seal(command: u8, word: u16, reply: &mut [u8]) -> u
 }
 
 // 0 for a whole reply, 1 for a wrong address byte, 2 for a wrong packet error code.
-#[unsafe(no_mangle)]
-pub extern "C" fn buttmitrel_check(reply: &[u8]) -> u64
+pub fn buttmitrel_check(reply: &[u8]) -> u64
     ensures { result ≡ value_code (check_answer reply.now) }
 {
     match pec::check(reply) {
@@ -75,8 +71,7 @@ pub extern "C" fn buttmitrel_check(reply: &[u8]) -> u64
 }
 
 // Writes the least and the greatest net charge of a trace, in mA seconds, into a list of two.
-#[unsafe(no_mangle)]
-pub extern "C" fn buttmitrel_net_charge(s: &[u8], bounds: &mut [i64]) -> u64
+pub fn buttmitrel_net_charge(s: &[u8], bounds: &mut [i64]) -> u64
     ensures answer { result ≡ code_of (into_two bounds.old (net_answer s.now)) }
     ensures bounds { bounds.new ≡ two_after bounds.old (into_two bounds.old (net_answer s.now)) }
 {
@@ -94,8 +89,7 @@ pub extern "C" fn buttmitrel_net_charge(s: &[u8], bounds: &mut [i64]) -> u64
 }
 
 // Writes the highest, the lowest and the sum of 3 to 12 voltages into a list of three.
-#[unsafe(no_mangle)]
-pub extern "C" fn buttmitrel_cells(volts: &[u16], three: &mut [u32]) -> u64
+pub fn buttmitrel_cells(volts: &[u16], three: &mut [u32]) -> u64
     ensures answer { result ≡ code_of (into 3 three.old (cells_answer volts.now)) }
     ensures three { three.new ≡ or_kept (into 3 three.old (cells_answer volts.now)) voltages_list three.old }
 {

@@ -1,4 +1,5 @@
 // The live feed for programs in C and Rust (include/buttmitrel.h), which keep the state in lists of their own and lend them to each call.
+// `buttmitrel_live_c` exports its functions.
 #![tactic(auto)]
 
 ghost use Rattle.std.specs.Prelude.{◌≡◌, [], ◌∷◌};
@@ -16,8 +17,7 @@ use live::Fed;
 use refusals::Refusal;
 
 // Begins a live feed: writes the states and the totals of the beginning.
-#[unsafe(no_mangle)]
-pub extern "C" fn buttmitrel_live_begin(
+pub fn buttmitrel_live_begin(
     cells: u8,
     idle: u16,
     rules: &[u8],
@@ -33,8 +33,7 @@ pub extern "C" fn buttmitrel_live_begin(
 }
 
 // Takes the sample of the expected tick.
-#[unsafe(no_mangle)]
-pub extern "C" fn buttmitrel_live_sample(
+pub fn buttmitrel_live_sample(
     cells: u8,
     idle: u16,
     rules: &[u8],
@@ -63,8 +62,7 @@ pub extern "C" fn buttmitrel_live_sample(
 }
 
 // Takes a hole from the expected tick up to its last tick.
-#[unsafe(no_mangle)]
-pub extern "C" fn buttmitrel_live_hole(
+pub fn buttmitrel_live_hole(
     cells: u8,
     idle: u16,
     rules: &[u8],
@@ -89,8 +87,7 @@ pub extern "C" fn buttmitrel_live_hole(
 }
 
 // Writes the report of a state into 187 bytes, with no first ticks.
-#[unsafe(no_mangle)]
-pub extern "C" fn buttmitrel_live_report(
+pub fn buttmitrel_live_report(
     cells: u8,
     idle: u16,
     rules: &[u8],

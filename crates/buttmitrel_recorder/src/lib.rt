@@ -1,4 +1,5 @@
 // The recorder for programs in C and Rust (include/buttmitrel.h), which keep the record as six numbers and lend them to each call.
+// `buttmitrel_recorder_c` exports its functions.
 #![tactic(auto)]
 
 ghost use Rattle.std.specs.Prelude.{◌≡◌, length};
@@ -38,8 +39,7 @@ fn store_numbers(numbers: &mut [u32], r: Recorder)
 }
 
 // Writes the six numbers of a fresh recorder.
-#[unsafe(no_mangle)]
-pub extern "C" fn buttmitrel_recorder_start(cells: u8, number: u32, numbers: &mut [u32]) -> u64
+pub fn buttmitrel_recorder_start(cells: u8, number: u32, numbers: &mut [u32]) -> u64
     ensures answer { result ≡ code_of (start_call cells number numbers.old) }
     ensures numbers { numbers.new ≡ numbers_after_start numbers.old (start_call cells number numbers.old) }
 {
@@ -56,8 +56,7 @@ pub extern "C" fn buttmitrel_recorder_start(cells: u8, number: u32, numbers: &mu
 }
 
 // Offers the sample of a tick: 0 where it is stored, 1 where it became part of a hole.
-#[unsafe(no_mangle)]
-pub extern "C" fn buttmitrel_recorder_offer(
+pub fn buttmitrel_recorder_offer(
     numbers: &mut [u32],
     store: &mut [u8],
     tick: u32,
@@ -90,12 +89,7 @@ pub extern "C" fn buttmitrel_recorder_offer(
 }
 
 // Writes the oldest samples to a buffer, as many whole ones as it holds, and answers how many.
-#[unsafe(no_mangle)]
-pub extern "C" fn buttmitrel_recorder_drain(
-    numbers: &mut [u32],
-    store: &[u8],
-    buffer: &mut [u8],
-) -> u64
+pub fn buttmitrel_recorder_drain(numbers: &mut [u32], store: &[u8], buffer: &mut [u8]) -> u64
     ensures answer { result ≡ value_code (drain_answer (drain_call numbers.old store.now buffer.old)) }
     ensures numbers { numbers.new ≡ numbers_after_drain numbers.old (drain_call numbers.old store.now buffer.old) }
     ensures buffer { buffer.new ≡ buffer_after_drain buffer.old (drain_call numbers.old store.now buffer.old) }
