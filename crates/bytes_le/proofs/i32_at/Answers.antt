@@ -1,5 +1,5 @@
 use mir.Syntax.{w32}
-use borrow.Author.Rules.{rules, sfits_of}
+use borrow.Author.Rules.{sfits_of}
 use Rattle.bytes_le.proofs.Signed.{signed_of}
 use Rattle.bytes_le.proofs.i32_at.Goals as goal
 

@@ -1,5 +1,5 @@
 use native.Mathlib.Omega.{arith}
-use Rattle.bytes_le.proofs.Puts.{Putting, put_not, putting_start, putting_next, putting_end}
+use Rattle.bytes_le.proofs.Puts.{put_not, putting_start, putting_next, putting_end}
 use Rattle.bytes_le.proofs.put.Goals as goal
 
 pub returns-then-buffer-at : goal.returns-then-buffer-at

@@ -1,5 +1,4 @@
-use native.Mathlib.Omega.{arith}
-use Rattle.bytes_le.proofs.Puts.{Putting, put_not, putting_start, putting_next, putting_end}
+use Rattle.bytes_le.proofs.Puts.{Putting}
 use Rattle.bytes_le.proofs.put.Given as goal
 
 abbrev pub invariant-loop-left : goal.invariant-loop-left

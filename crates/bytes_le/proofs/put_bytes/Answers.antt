@@ -1,9 +1,7 @@
 use native.Mathlib.Omega.{arith}
-use Prim.Native.Nat.{◌-◌}
-use lib.ListN.{length}
 use borrow.Author.Rules.{rules}
 use Rattle.bytes_le.proofs.Puts.{put_none}
-use Rattle.bytes_le.proofs.Copying.{Copying, copying_start, copying_next, copying_end}
+use Rattle.bytes_le.proofs.Copying.{copying_start, copying_next, copying_end}
 use Rattle.bytes_le.proofs.put_bytes.Goals as goal
 
 pub returns-then-buffer-at : goal.returns-then-buffer-at

@@ -1,9 +1,6 @@
-use native.Mathlib.Omega.{arith}
 use Prim.Native.Nat.{◌-◌}
 use lib.ListN.{length}
-use borrow.Author.Rules.{rules}
-use Rattle.bytes_le.proofs.Puts.{put_none}
-use Rattle.bytes_le.proofs.Copying.{Copying, copying_start, copying_next, copying_end}
+use Rattle.bytes_le.proofs.Copying.{Copying}
 use Rattle.bytes_le.proofs.put_bytes.Given as goal
 
 abbrev pub invariant-loop-i : goal.invariant-loop-i

@@ -1,5 +1,4 @@
 use mathlib.Core.Path.{sym}
-use borrow.Author.Rules.{rules}
 use Rattle.bytes_le.proofs.PastEnd.{u16_past}
 use Rattle.bytes_le.proofs.u16_at.Goals as goal
 

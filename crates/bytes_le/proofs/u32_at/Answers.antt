@@ -1,6 +1,5 @@
 use mathlib.Core.Path.{sym}
 use native.Mathlib.Omega.{arith}
-use borrow.Author.Rules.{rules}
 use Rattle.bytes_le.proofs.PastEnd.{u32_past, high_past}
 use Rattle.bytes_le.proofs.u32_at.Goals as goal
 

@@ -4,8 +4,7 @@ use lib.ListN.{length}
 use borrow.Author.Rules.{rules}
 use Rattle.rules.proofs.Rows.{row_of}
 use Rattle.flags.specs.Flags.{number_of}
-use Rattle.flags.specs.Outputs.{drivers}
-use Rattle.flags.proofs.Driven.{Driven, start, next, whole, long}
+use Rattle.flags.proofs.Driven.{start, next, whole, long}
 use Rattle.flags.proofs.output_of.Goals as goal
 
 pub loop-i-init : goal.loop-i-init

@@ -1,11 +1,5 @@
-use mathlib.Core.Path.{◌≡◌, ap}
-use native.Mathlib.Omega.{arith}
-use lib.ListN.{length}
-use borrow.Author.Rules.{rules}
-use Rattle.rules.proofs.Rows.{row_of}
-use Rattle.flags.specs.Flags.{number_of}
 use Rattle.flags.specs.Outputs.{drivers}
-use Rattle.flags.proofs.Driven.{Driven, start, next, whole, long}
+use Rattle.flags.proofs.Driven.{Driven}
 use Rattle.flags.proofs.output_of.Given as goal
 
 abbrev pub invariant-loop-i : goal.invariant-loop-i

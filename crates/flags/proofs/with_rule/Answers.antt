@@ -1,4 +1,3 @@
-use borrow.Author.Rules.{rules}
 use Rattle.flags.proofs.with_rule.Goals as goal
 
 pub returns-then-driving : goal.returns-then-driving

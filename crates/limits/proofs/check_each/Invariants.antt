@@ -1,9 +1,6 @@
 use Prim.Native.Nat.{◌-◌}
-use mathlib.Core.Path.{refl}
-use native.Mathlib.Omega.{arith}
-use borrow.Author.Rules.{rules}
 use Rattle.limits.specs.Limits.{setting_at}
-use Rattle.limits.proofs.RuleSets.{Checking, start, next, stop, end, refuses}
+use Rattle.limits.proofs.RuleSets.{Checking}
 use Rattle.limits.proofs.check_each.Given as goal
 
 abbrev pub invariant-loop-i : goal.invariant-loop-i

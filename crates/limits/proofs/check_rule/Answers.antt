@@ -1,6 +1,6 @@
 use mathlib.Core.Path.{sym, ◌∙◌}
 use native.Mathlib.Omega.{arith}
-use borrow.Author.Rules.{sfits_of, rules}
+use borrow.Author.Rules.{sfits_of}
 use Rattle.limits.proofs.RuleSets.{time_small, checked_is, setting_is}
 use Rattle.limits.proofs.check_rule.Goals as goal
 

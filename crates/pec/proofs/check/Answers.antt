@@ -1,10 +1,7 @@
-use Prim.Native.Nat.{ℕ}
-use mathlib.Core.Path.{◌≡◌, sym, ap, ◌∙◌}
+use mathlib.Core.Path.{sym, ◌∙◌}
 use native.Mathlib.Omega.{arith}
-use lib.ListN.{length, length-set}
 use lib.Seq.{length-take-le}
 use Rattle.pec.proofs.Replies.{check_refused, check_wrong_first, check_wrong_third, check_wrong_code, check_whole}
-use borrow.Author.Rules.{rules}
 use Rattle.pec.proofs.check.Goals as goal
 
 pub returns-then-reply-ne6 : goal.returns-then-reply-ne6

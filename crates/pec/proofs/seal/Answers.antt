@@ -1,10 +1,8 @@
-use Prim.Native.Nat.{ℕ}
-use mathlib.Core.Path.{◌≡◌, sym, ap, ◌∙◌}
+use mathlib.Core.Path.{sym}
 use native.Mathlib.Omega.{arith}
-use lib.ListN.{length, length-set}
+use lib.ListN.{length-set}
 use lib.Seq.{length-take-le}
 use Rattle.pec.proofs.Replies.{seal_refused, seal_kept, seal_done, written, stored}
-use borrow.Author.Rules.{rules}
 use Rattle.pec.proofs.seal.Goals as goal
 
 pub returns-then-buffer-ne6 : goal.returns-then-buffer-ne6

@@ -1,5 +1,4 @@
 use mathlib.Core.Path.{sym, ap}
-use borrow.Author.Rules.{rules}
 use Rattle.refusals.specs.Refusals.{place_of}
 use Rattle.refusals.proofs.place.Goals as goal
 

@@ -1,6 +1,5 @@
 use mathlib.Core.Path.{sym}
 use lib.ListN.{get_or-eq_default}
-use borrow.Author.Rules.{rules}
 use Rattle.rules.specs.Table.{rows}
 use Rattle.rules.proofs.Rows.{get_d_any}
 use Rattle.rules.proofs.row_at.Goals as goal

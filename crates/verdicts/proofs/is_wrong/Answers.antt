@@ -1,7 +1,6 @@
 use mathlib.Core.Path.{ap, ap₂, ◌∙◌}
 use mathlib.Core.Bool.{◌||◌}
 use Rattle.verdicts.specs.Verdicts.{missed, invented}
-use borrow.Author.Rules.{rules}
 use Rattle.verdicts.proofs.is_wrong.Goals as goal
 
 pub returns : goal.returns

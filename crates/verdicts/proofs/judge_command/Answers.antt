@@ -1,6 +1,5 @@
 use mathlib.Core.Path.{◌∙◌}
 use borrow.Author.Tests.{eq-eqb, ne_eqb}
-use borrow.Author.Rules.{rules}
 use Rattle.verdicts.proofs.judge_command.Goals as goal
 
 pub returns-then-command-eq9 : goal.returns-then-command-eq9

@@ -1,7 +1,6 @@
 use mathlib.Core.Path.{refl, sym, ap, ◌∙◌}
 use Rattle.pec.specs.Reply.{answer_of_check}
 use Rattle.verdicts.proofs.Cases.{checked_six, wrong_verdict, whole_verdict, refused_verdict}
-use borrow.Author.Rules.{rules}
 use Rattle.verdicts.proofs.judge_reply.Goals as goal
 
 pub judge_whole-requires : goal.judge_whole-requires

@@ -1,6 +1,5 @@
 use mathlib.Core.Path.{sym, ap₂, ◌∙◌}
 use mathlib.Core.Bool.{◌||◌}
-use borrow.Author.Rules.{rules}
 use Rattle.verdicts.proofs.judge_status.Goals as goal
 
 pub returns-then-is_wrong : goal.returns-then-is_wrong

@@ -3,7 +3,6 @@ use mathlib.Core.Bool.{Bool, cond}
 use Rattle.refusals.specs.Refusals.{answer}
 use Rattle.verdicts.specs.declared.Tick.{Tick}
 use Rattle.verdicts.specs.Verdicts.{voltage_verdict}
-use borrow.Author.Rules.{rules}
 use Rattle.verdicts.proofs.judge_voltage.Goals as goal
 
 pub returns-in-Seen : goal.returns-in-Seen

@@ -3,7 +3,6 @@ use mathlib.Core.Path.{ap, ◌∙◌}
 use lib.ListN.{get_or}
 use Rattle.refusals.specs.Refusals.{answer}
 use Rattle.verdicts.specs.Verdicts.{command_verdict}
-use borrow.Author.Rules.{rules}
 use Rattle.verdicts.proofs.judge_whole.Goals as goal
 
 pub returns : goal.returns

@@ -4,7 +4,6 @@ use lib.Signed.{le_z}
 use mir.Syntax.{w16}
 use mir.ValLaws.{to_z-of_z}
 use borrow.Author.Rules.{sfits_of}
-use borrow.Author.Rules.{rules}
 use Rattle.verdicts.proofs.same_current.Goals as goal
 
 pub returns : goal.returns

@@ -1,4 +1,4 @@
-use borrow.Author.Rules.{sfits_of, rules}
+use borrow.Author.Rules.{sfits_of}
 use borrow.Author.Tests.{eq-eqb, ne_eqb, lt-leb}
 use Rattle.limits.specs.Limits.{limits}
 use Rattle.limits.proofs.RuleSets.{limits_are}

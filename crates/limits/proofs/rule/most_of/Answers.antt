@@ -4,7 +4,6 @@ use mir.Syntax.{w32}
 use mir.Facts.{to_z_pos}
 use borrow.Author.Rules.{rules}
 use Rattle.rules.specs.Quantities.{most}
-use Rattle.rules.proofs.Quantities.{most_volts, most_signed}
 use Rattle.limits.proofs.rule.most_of.Goals as goal
 
 pub returns-in-SumOfCells : goal.returns-in-SumOfCells

@@ -1,7 +1,6 @@
 use mir.Syntax.{w32}
 use mir.Val.{SFits}
 use Rattle.limits.proofs.RuleSets.{held_limits}
-use borrow.Author.Rules.{rules}
 use Rattle.limits.proofs.settings.accepts_setting.Goals as goal
 
 pub returns : goal.returns

@@ -1,4 +1,3 @@
-use borrow.Author.Rules.{rules}
 use mathlib.Core.Path.{◌∙◌}
 use Rattle.pec.proofs.Division.{pec_byte}
 use Rattle.pec.proofs.table.with_byte.Goals as goal

@@ -1,4 +1,3 @@
-use borrow.Author.Rules.{rules}
 use Rattle.rules.proofs.evaluation.evaluated_at.Goals as goal
 
 pub returns-then-row : goal.returns-then-row

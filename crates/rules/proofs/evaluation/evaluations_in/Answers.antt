@@ -1,5 +1,4 @@
 use Rattle.rules.proofs.Evaluations.{evaluations_none, evaluations_half, evaluations_all}
-use borrow.Author.Rules.{rules}
 use Rattle.rules.proofs.evaluation.evaluations_in.Goals as goal
 
 pub returns-then-last-first : goal.returns-then-last-first
