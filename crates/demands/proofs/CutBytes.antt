@@ -1,6 +1,6 @@
 -- The bytes of a cut trace are accepted, and they are the bytes of that trace.
 use Prim.Native.Nat.{ℕ, suc, ◌*◌, ◌/◌}
-use mathlib.Core.Path.{◌≡◌, sym, ap, subst, ◌∙◌}
+use mathlib.Core.Path.{◌≡◌, sym, subst, ◌∙◌}
 use mathlib.Core.List.{List}
 use native.Mathlib.Omega.{arith}
 use lib.ListN.{length, take}
@@ -13,7 +13,7 @@ use Rattle.trace.specs.Sections.{holes_part, replies_part, samples_part}
 use Rattle.trace.specs.Acceptance.{Parsed, accept_answer}
 use Rattle.trace.specs.Writing.{hole_bytes}
 use Rattle.trace.proofs.TickBounds.{bounded}
-use Rattle.trace.proofs.EachBytes.{Held, held_count, each_held}
+use Rattle.trace.proofs.EachBytes.{Held, each_held}
 use Rattle.trace.proofs.RecordBytes.{hole_written, holes_are, reply_within, sample_within, first_held_lem}
 use Rattle.trace.proofs.WholeParts.{holes_whole, replies_whole, samples_whole}
 use Rattle.trace.proofs.WrittenSections.{trace_are, part_are}

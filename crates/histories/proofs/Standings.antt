@@ -18,12 +18,12 @@ use Rattle.trace.specs.Writing.{each_bytes, sample_bytes}
 use Rattle.trace.proofs.EachBytes.{each_append, each_long}
 use Rattle.trace.proofs.SampleBytes.{Carries, sample_written}
 use Rattle.ticks.specs.inner.Places.{done}
-use Rattle.recording.specs.Recorder.{stamped, slot_of, has_room, holes_with, store_with, stored, dropped, oldest, bytes_from, drain_count, drained_by, drained}
+use Rattle.recording.specs.Recorder.{stamped, slot_of, has_room, holes_with, store_with, stored, dropped, oldest, bytes_from, drain_count, drained_by}
 use Rattle.recording.specs.inner.Steps.{Good}
 use Rattle.recording.specs.declared.Recorder.{Recorder}
 use Rattle.recording.proofs.GoodRecords.{room_facts, slot_within}
 use Rattle.recording.proofs.Turns.{whole_fit}
-use Rattle.histories.specs.Calls.{drain, Standing, after}
+use Rattle.histories.specs.Calls.{Standing}
 use Rattle.histories.proofs.LongerPlaces.{sample_more}
 use Rattle.histories.proofs.StoredHoles.{holes_kept}
 use Rattle.histories.proofs.UnseenTicks.{Covers, unseen_put}

@@ -1,11 +1,11 @@
 -- A report turned into hex digits, byte by byte.
-use Prim.Native.Nat.{ℕ, zero, suc, ◌+◌, ◌*◌, ◌/◌, ◌%◌, ◌≤◌, ◌<◌}
+use Prim.Native.Nat.{ℕ, suc, ◌+◌, ◌*◌, ◌/◌, ◌%◌, ◌≤◌, ◌<◌}
 use mathlib.Core.Path.{◌≡◌, refl, ap, sym, ◌∙◌}
 use mathlib.Core.List.{List, [], ◌∷◌, ◌++◌, append_assoc}
 use native.Mathlib.Omega.{arith}
 use native.Mathlib.Numerals.{add-one}
 use lib.ListN.{length, get_or, set, take, length-set, length-append}
-use lib.Seq.{take-suc, take-suc-set, take-set-le, take_all, get_or-set_other}
+use lib.Seq.{take-suc, take-suc-set, take_all, get_or-set_other}
 use Rattle.io.specs.Digits.{hex_digit_ascii}
 use Rattle.lines.specs.Lines.{hex_digits, hex_line}
 

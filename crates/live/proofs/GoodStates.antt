@@ -1,6 +1,6 @@
 -- What a good state is, part by part.
-use Prim.Native.Nat.{ℕ, zero, suc, ◌*◌, ◌≤◌, ◌<◌}
-use mathlib.Core.Path.{◌≡◌, refl, sym, ◌∙◌}
+use Prim.Native.Nat.{ℕ, ◌*◌, ◌≤◌}
+use mathlib.Core.Path.{◌≡◌, refl, sym}
 use mathlib.Core.Bool.{Bool, true, false, ◌&&◌}
 use native.Mathlib.Omega.{arith}
 use lib.Dec.{leb}
@@ -10,7 +10,7 @@ use Rattle.lists.proofs.Bools.{both_true, by_order}
 use Rattle.refusals.specs.Refusals.{Answer, answer, refused, passes}
 use Rattle.rules.specs.Samples.{cell_count}
 use Rattle.rules.specs.Table.{rows, row_at}
-use Rattle.limits.specs.Limits.{off, limits, limits_answer}
+use Rattle.limits.specs.Limits.{off, limits_answer}
 use Rattle.limits.proofs.RuleSets.{time_small, rule_within}
 use Rattle.report.specs.declared.Totals.{Totals}
 use Rattle.states.specs.Validity.{valid_record}

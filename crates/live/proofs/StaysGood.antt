@@ -1,7 +1,7 @@
 -- A state that a call answers is a good one.
-use Prim.Native.Nat.{ℕ, suc, ◌+◌, ◌-◌, ◌*◌, ◌≤◌, ◌<◌}
-use mathlib.Core.Path.{◌≡◌, refl, sym, ◌∙◌, subst}
-use mathlib.Core.Bool.{Bool, true, cond, ◌&&◌}
+use Prim.Native.Nat.{ℕ, ◌*◌, ◌≤◌}
+use mathlib.Core.Path.{◌≡◌, refl, sym, subst}
+use mathlib.Core.Bool.{◌&&◌}
 use mathlib.Core.List.{List}
 use native.Mathlib.Omega.{arith}
 use lib.Dec.{T, leb, eqb}
@@ -9,8 +9,7 @@ use lib.ListN.{length}
 use borrow.Author.Tests.{leb-true}
 use Rattle.lists.specs.Lists.{tabulate}
 use Rattle.lists.proofs.Bools.{is_true, both_true}
-use Rattle.refusals.specs.Refusals.{Answer, answer, refused, or_kept, passes}
-use Rattle.rules.specs.Table.{rows}
+use Rattle.refusals.specs.Refusals.{Answer, answer, refused, or_kept}
 use Rattle.rules.specs.Samples.{Sample, I16, cell_count, readings_of}
 use Rattle.limits.specs.Limits.{off, settings_of, limits, limits_answer}
 use Rattle.refusals.proofs.Answers.{where_true}

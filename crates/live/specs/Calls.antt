@@ -1,5 +1,5 @@
 -- Paper 01, 'Live feed' and 'Refusal numbers': what each call answers for any state, and the state after it.
-use Rattle.std.specs.Prelude.{ℕ, ◌*◌, cond, ◌&&◌, List, ltb, leb, eqb, length}
+use Rattle.std.specs.Prelude.{ℕ, cond, ◌&&◌, List, ltb, leb, eqb, length}
 use Rattle.lists.specs.Lists.{tabulate}
 use Rattle.refusals.specs.Refusals.{Answer, answer, refused, refusal, or_kept}
 use Rattle.rules.specs.Table.{rows}

@@ -1,6 +1,6 @@
 -- Paper 01, 'Live feed': the state, and which states are good ones (refusal 16).
-use Rattle.std.specs.Prelude.{ℕ, ◌+◌, ◌-◌, ◌*◌, suc, Bool, true, false, ◌&&◌, List, leb}
-use Rattle.refusals.specs.Refusals.{Answer, answer, refused, passes}
+use Rattle.std.specs.Prelude.{ℕ, ◌+◌, ◌-◌, suc, Bool, ◌&&◌, List, leb}
+use Rattle.refusals.specs.Refusals.{passes}
 use Rattle.rules.specs.declared.Setting.{Setting}
 use Rattle.rules.specs.Table.{rows}
 use Rattle.rules.specs.Samples.{Sample, cell_count, readings_of}

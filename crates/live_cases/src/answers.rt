@@ -1,142 +1,142 @@
 // The lines of what the calls answer.
 use crate::same::same;
 use flags::{Flag, Output, RuleFlags};
-use libc::STDOUT_FILENO;
 use live::{Fed, Live, OutputRead, Step, TotalsRead};
 use refusals::Refusal;
 use report::Totals;
+use std::io;
 use totals::NetCharge;
 
-pub(crate) fn put(c: u8) {
+pub(crate) fn put(rt: &impl Print, c: u8) -> io::Result<()> {
     let text = [c];
-    io::write_all(STDOUT_FILENO, &text);
+    rt.write_all(&text)
 }
 
-fn say(n: u64) {
-    put(b' ');
-    io::print_decimal(STDOUT_FILENO, n);
+fn say(rt: &impl Print, n: u64) -> io::Result<()> {
+    put(rt, b' ')?;
+    rt.print(n)
 }
 
 fn magnitude(n: i64) -> u64 {
     if n < 0 { (!n) as u64 + 1 } else { n as u64 }
 }
 
-fn say_signed(n: i64) {
-    put(b' ');
+fn say_signed(rt: &impl Print, n: i64) -> io::Result<()> {
+    put(rt, b' ')?;
     if n < 0 {
-        put(b'-');
+        put(rt, b'-')?;
     }
-    io::print_decimal(STDOUT_FILENO, magnitude(n));
+    rt.print(magnitude(n))
 }
 
 // The last number of a line.
-fn end(n: u64) {
-    say(n);
-    put(b'\n');
+fn end(rt: &impl Print, n: u64) -> io::Result<()> {
+    say(rt, n)?;
+    put(rt, b'\n')
 }
 
-fn end_refusal(why: Refusal) {
-    put(b' ');
+fn end_refusal(rt: &impl Print, why: Refusal) -> io::Result<()> {
+    put(rt, b' ')?;
     let mut line = [0u8; 64];
     let n = lines::put_refusal(&mut line, why);
-    io::write_all(STDOUT_FILENO, &line[..n]);
+    rt.write_all(&line[..n])
 }
 
-fn end_taken(next: u32) {
-    io::write_all(STDOUT_FILENO, b" taken, next tick");
-    end(next as u64);
+fn end_taken(rt: &impl Print, next: u32) -> io::Result<()> {
+    rt.write_all(b" taken, next tick")?;
+    end(rt, next as u64)
 }
 
-fn end_fed(answer: Fed, next: u32) {
+fn end_fed(rt: &impl Print, answer: Fed, next: u32) -> io::Result<()> {
     match answer {
-        Fed::Taken => end_taken(next),
-        Fed::Refused(why) => end_refusal(why),
+        Fed::Taken => end_taken(rt, next),
+        Fed::Refused(why) => end_refusal(rt, why),
     }
 }
 
-pub(crate) fn say_same(same: bool) {
+pub(crate) fn say_same(rt: &impl Print, same: bool) -> io::Result<()> {
     if same {
-        io::write_all(STDOUT_FILENO, b": same state");
+        rt.write_all(b": same state")
     } else {
-        io::write_all(STDOUT_FILENO, b": another state");
+        rt.write_all(b": another state")
     }
 }
 
 // Whether a call that feeds answers the state of its case, and whether it was taken, with the next tick.
-pub(crate) fn end_step(step: Step, state: Live) {
+pub(crate) fn end_step(rt: &impl Print, step: Step, state: Live) -> io::Result<()> {
     let answer = step.answer;
     let after = step.state;
     let counted = after.totals;
-    say_same(same(state, after));
-    put(b',');
-    end_fed(answer, counted.ticks);
+    say_same(rt, same(state, after))?;
+    put(rt, b',')?;
+    end_fed(rt, answer, counted.ticks)
 }
 
 fn digit(flag: Flag) -> u64 {
     flags::number(flag) as u64
 }
 
-fn end_rule(rule: RuleFlags) {
+fn end_rule(rt: &impl Print, rule: RuleFlags) -> io::Result<()> {
     let alert = rule.alert;
     let status = rule.status;
-    say(digit(alert));
-    end(digit(status));
+    say(rt, digit(alert))?;
+    end(rt, digit(status))
 }
 
-fn end_rule_0(answer: Fed, rule: RuleFlags) {
+fn end_rule_0(rt: &impl Print, answer: Fed, rule: RuleFlags) -> io::Result<()> {
     match answer {
-        Fed::Taken => end_rule(rule),
-        Fed::Refused(why) => end_refusal(why),
+        Fed::Taken => end_rule(rt, rule),
+        Fed::Refused(why) => end_refusal(rt, why),
     }
 }
 
-fn end_flags(state: Live) {
+fn end_flags(rt: &impl Print, state: Live) -> io::Result<()> {
     let read = live::flags(state);
     let answer = read.answer;
     let flags = read.flags;
-    end_rule_0(answer, flags.of[0]);
+    end_rule_0(rt, answer, flags.of[0])
 }
 
-fn end_output(read: OutputRead) {
+fn end_output(rt: &impl Print, read: OutputRead) -> io::Result<()> {
     match read {
-        OutputRead::Reads(flag) => end(digit(flag)),
-        OutputRead::Refused(why) => end_refusal(why),
+        OutputRead::Reads(flag) => end(rt, digit(flag)),
+        OutputRead::Refused(why) => end_refusal(rt, why),
     }
 }
 
-fn end_counted(counted: Totals) {
-    say(counted.charge_in);
-    say(counted.charge_out);
-    say(counted.unseen as u64);
-    end(counted.ticks as u64);
+fn end_counted(rt: &impl Print, counted: Totals) -> io::Result<()> {
+    say(rt, counted.charge_in)?;
+    say(rt, counted.charge_out)?;
+    say(rt, counted.unseen as u64)?;
+    end(rt, counted.ticks as u64)
 }
 
-fn end_totals(read: TotalsRead) {
+fn end_totals(rt: &impl Print, read: TotalsRead) -> io::Result<()> {
     match read {
-        TotalsRead::Counted(counted) => end_counted(counted),
-        TotalsRead::Refused(why) => end_refusal(why),
+        TotalsRead::Counted(counted) => end_counted(rt, counted),
+        TotalsRead::Refused(why) => end_refusal(rt, why),
     }
 }
 
-fn end_between(least: i64, greatest: i64) {
-    say_signed(least);
-    say_signed(greatest);
-    put(b'\n');
+fn end_between(rt: &impl Print, least: i64, greatest: i64) -> io::Result<()> {
+    say_signed(rt, least)?;
+    say_signed(rt, greatest)?;
+    put(rt, b'\n')
 }
 
-fn end_net_charge(net: NetCharge) {
+fn end_net_charge(rt: &impl Print, net: NetCharge) -> io::Result<()> {
     match net {
-        NetCharge::Between { least, greatest } => end_between(least, greatest),
-        NetCharge::Refused(why) => end_refusal(why),
+        NetCharge::Between { least, greatest } => end_between(rt, least, greatest),
+        NetCharge::Refused(why) => end_refusal(rt, why),
     }
 }
 
-pub(crate) fn end_read(letter: u8, state: Live) {
-    put(b':');
+pub(crate) fn end_read(rt: &impl Print, letter: u8, state: Live) -> io::Result<()> {
+    put(rt, b':')?;
     match letter {
-        b'f' => end_flags(state),
-        b'o' => end_output(live::output(state, Output::ChargeOpen)),
-        b't' => end_totals(live::totals(state)),
-        _ => end_net_charge(live::net_charge(state)),
+        b'f' => end_flags(rt, state),
+        b'o' => end_output(rt, live::output(state, Output::ChargeOpen)),
+        b't' => end_totals(rt, live::totals(state)),
+        _ => end_net_charge(rt, live::net_charge(state)),
     }
 }

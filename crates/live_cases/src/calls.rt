@@ -5,6 +5,7 @@ use crate::answers::{end_read, end_step, put, say_same};
 use crate::case::{Case, Lent, Numbers, number8, number16, number32, state_of};
 use crate::same::same;
 use live::{Live, Step};
+use std::io;
 
 fn least(n: u8, most: u8) -> usize
     ensures { result ≤ most }
@@ -43,17 +44,23 @@ fn feed(letter: u8, state: Live, case: Case) -> Step {
     }
 }
 
-fn compare(state: Live, kept: Case) {
-    say_same(same(state, state_of(kept)));
-    put(b'\n');
+fn compare(rt: &impl Print, state: Live, kept: Case) -> io::Result<()> {
+    say_same(rt, same(state, state_of(kept)))?;
+    put(rt, b'\n')
 }
 
 // Ends a line with what the call that it names answers.
-pub(crate) fn end_line(letter: u8, state: Live, case: Case, kept: Case) {
+pub(crate) fn end_line(
+    rt: &impl Print,
+    letter: u8,
+    state: Live,
+    case: Case,
+    kept: Case,
+) -> io::Result<()> {
     match letter {
-        b's' | b'h' | b'b' => end_step(feed(letter, state, case), state),
-        b'f' | b'o' | b't' | b'n' => end_read(letter, state),
-        b'e' => compare(state, kept),
-        _ => put(b'\n'),
+        b's' | b'h' | b'b' => end_step(rt, feed(letter, state, case), state),
+        b'f' | b'o' | b't' | b'n' => end_read(rt, letter, state),
+        b'e' => compare(rt, state, kept),
+        _ => put(rt, b'\n'),
     }
 }

@@ -11,10 +11,10 @@ mod words;
 use answers::put;
 use calls::end_line;
 use case::{no_case, state_of, with_field};
-use libc::STDIN_FILENO;
+use std::io;
 use words::{no_word, with_char};
 
-fn run(text: &[u8]) {
+fn run(rt: &impl Print, text: &[u8]) -> io::Result<()> {
     let mut kept = no_case();
     let mut case = no_case();
     let mut word = no_word();
@@ -25,7 +25,7 @@ fn run(text: &[u8]) {
             case = with_field(case, word);
         }
         if c == b'\n' {
-            end_line(word.letter, state_of(case), case, kept);
+            end_line(rt, word.letter, state_of(case), case, kept)?;
             if word.letter == b'k' {
                 kept = case;
             }
@@ -34,15 +34,18 @@ fn run(text: &[u8]) {
             }
             word = no_word();
         } else {
-            put(c);
+            put(rt, c)?;
             word = with_char(word, c);
         }
         i += 1;
     }
+    Ok(())
 }
 
-fn main() {
-    let mut text = io::large_buffer();
-    let n = io::read_full(STDIN_FILENO, &mut text);
-    run(&text[..n]);
+// A text longer than 65,536 bytes is read up to there.
+fn main(rt: HostRuntime) -> io::Result<()> {
+    let mut text = [0u8; 65536];
+    let mut input = rt.reader();
+    let n = inputs::read_full(&mut input, &mut text)?;
+    run(&rt, &text[..n])
 }

@@ -1,7 +1,7 @@
 // Reads messages, a line of hex digits each, and writes the packet error code of each, a line of two hex digits.
 #![tactic(auto)]
 
-use libc::{STDIN_FILENO, STDOUT_FILENO};
+use std::io;
 
 #[derive(Clone, Copy)]
 struct Line {
@@ -36,33 +36,35 @@ fn with_digit(mut line: Line, digit: u8) -> Line {
     line
 }
 
-fn answer(bytes: [u8; 64], n: usize) {
+fn answer(rt: &impl Print, bytes: [u8; 64], n: usize) -> io::Result<()> {
     if 64 < n {
-        return;
+        return Ok(());
     }
     let code = pec::pec(&bytes[..n]);
-    io::print_hex(STDOUT_FILENO, code as u64, 2);
-    io::write_all(STDOUT_FILENO, b"\n");
+    println!(rt; "{code:02x}")
 }
 
-fn answer_lines(text: &[u8]) {
+fn answer_lines(rt: &impl Print, text: &[u8]) -> io::Result<()> {
     let mut line = empty();
     let mut i = 0;
     while i < text.len() {
         let c = text[i];
         if c == b'\n' {
             let bytes = line.bytes;
-            answer(bytes, line.digits / 2);
+            answer(rt, bytes, line.digits / 2)?;
             line = empty();
         } else {
             line = with_digit(line, value_of(c));
         }
         i += 1;
     }
+    Ok(())
 }
 
-fn main() {
-    let mut text = io::large_buffer();
-    let n = io::read_full(STDIN_FILENO, &mut text);
-    answer_lines(&text[..n]);
+// A text longer than 65,536 bytes is read up to there.
+fn main(rt: HostRuntime) -> io::Result<()> {
+    let mut text = [0u8; 65536];
+    let mut input = rt.reader();
+    let n = inputs::read_full(&mut input, &mut text)?;
+    answer_lines(&rt, &text[..n])
 }

@@ -1,6 +1,6 @@
 -- What is written as a trace is read back and accepted.
 use Prim.Native.Nat.{ℕ}
-use mathlib.Core.Path.{◌≡◌, refl, sym, ap, subst, ◌∙◌}
+use mathlib.Core.Path.{◌≡◌, sym, ap, subst, ◌∙◌}
 use mathlib.Core.List.{List}
 use lib.ListN.{take, drop, take-append-drop}
 use lib.Seq.{length-take-le}

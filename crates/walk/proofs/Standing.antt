@@ -1,13 +1,13 @@
 -- In the parts of an accepted trace the walk goes on over unseen ticks and over samples up to its last tick.
-use Prim.Native.Nat.{ℕ, zero, suc, ◌+◌, ◌-◌, ◌*◌, ◌≤◌, ◌<◌}
+use Prim.Native.Nat.{ℕ, zero, suc, ◌+◌, ◌-◌, ◌≤◌, ◌<◌}
 use mathlib.Core.Path.{◌≡◌, refl, sym, ap, ◌∙◌, subst}
 use mathlib.Core.Bool.{Bool, true, false, cond}
-use mathlib.Core.List.{List, [], ◌∷◌}
+use mathlib.Core.List.{List, ◌∷◌}
 use native.Mathlib.Omega.{arith}
 use native.Mathlib.Numerals.{add-one}
-use lib.Dec.{leb, eqb}
+use lib.Dec.{leb}
 use lib.ListN.{length}
-use borrow.Author.Tests.{leb-true, leb-false, le-leb, lt-leb, eq-eqb, ne_eqb}
+use borrow.Author.Tests.{leb-true, leb-false, le-leb, eq-eqb, ne_eqb}
 use Rattle.bytes_le.specs.Numbers.{u32_at, spaced}
 use Rattle.trace.specs.Records.{Hole, Stamped, hole_at, holes_from, samples_from, sample_width, stamped_at}
 use Rattle.bytes_le.proofs.Spaced.{spaced_next}
@@ -15,7 +15,7 @@ use Rattle.trace.proofs.CoverTurns.{peel}
 use Rattle.fillings.specs.Fillings.{seen, unseen}
 use Rattle.ticks.specs.Traces.{shown_in}
 use Rattle.ticks.specs.inner.Places.{Place, NotYet}
-use Rattle.ticks.proofs.Places.{place_low, in_hole_lem, hole_stays, no_sample, at_sample}
+use Rattle.ticks.proofs.Places.{in_hole_lem, hole_stays, no_sample, at_sample}
 use Rattle.walk.specs.declared.Cursor.{Cursor}
 use Rattle.walk.specs.declared.Ahead.{Ahead}
 use Rattle.walk.specs.declared.Ahead.TheVariants.{Unseen, Sample, End}

@@ -1,5 +1,4 @@
 use mathlib.Core.Path.{sym, ap, ◌∙◌}
-use borrow.Author.Rules.{rules}
 use Rattle.pec.specs.Reply.{answer_of_check}
 use Rattle.buttmitrel.specs.Code.{value_code}
 use Rattle.buttmitrel.proofs.buttmitrel_check.Goals as goal

@@ -1,5 +1,4 @@
 use mathlib.Core.Path.{sym, ap, ◌∙◌}
-use borrow.Author.Rules.{rules}
 use Rattle.judge.specs.Judge.{answer_of_judged}
 use Rattle.buttmitrel.specs.Code.{code_of}
 use Rattle.buttmitrel.proofs.buttmitrel_judge.Goals as goal

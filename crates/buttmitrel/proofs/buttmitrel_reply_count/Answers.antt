@@ -1,7 +1,6 @@
 use Rattle.buttmitrel.specs.Code.{value_code}
 use Rattle.trace.specs.Sections.{answer_of_count}
 use mathlib.Core.Path.{sym, ap, ◌∙◌}
-use borrow.Author.Rules.{rules}
 use Rattle.buttmitrel.proofs.buttmitrel_reply_count.Goals as goal
 
 pub returns-in-Replies : goal.returns-in-Replies

@@ -1,7 +1,6 @@
 use mathlib.Core.Path.{sym, ap, ◌∙◌}
 use Rattle.pec.specs.Reply.{answer_of_seal}
 use Rattle.buttmitrel.specs.Code.{code_of}
-use borrow.Author.Rules.{rules}
 use Rattle.buttmitrel.proofs.buttmitrel_seal.Goals as goal
 
 pub returns-in-Written : goal.returns-in-Written

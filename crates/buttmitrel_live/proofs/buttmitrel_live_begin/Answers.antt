@@ -2,7 +2,6 @@ use Rattle.lists.specs.Lists.{tabulate}
 use Rattle.limits.specs.Limits.{settings_of, off}
 use Rattle.live.specs.Calls.{begin_answer}
 use Rattle.buttmitrel_live.proofs.Feeding.{begins}
-use borrow.Author.Rules.{rules}
 use Rattle.buttmitrel_live.proofs.buttmitrel_live_begin.Goals as goal
 
 pub returns : goal.returns

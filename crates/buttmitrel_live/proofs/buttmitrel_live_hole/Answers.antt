@@ -3,7 +3,6 @@ use Rattle.live.specs.Calls.{hole_answer}
 use Rattle.live.proofs.Stepping.{no_hole}
 use Rattle.buttmitrel_live.specs.Live.{state_of}
 use Rattle.buttmitrel_live.proofs.Feeding.{stored_not, no_state, feeds}
-use borrow.Author.Rules.{rules}
 use Rattle.buttmitrel_live.proofs.buttmitrel_live_hole.Goals as goal
 
 pub returns-in-Refused : goal.returns-in-Refused

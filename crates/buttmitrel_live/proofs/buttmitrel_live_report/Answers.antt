@@ -2,7 +2,6 @@ use mathlib.Core.Path.{sym}
 use Rattle.live.specs.Calls.{of_good}
 use Rattle.buttmitrel_live.specs.Live.{state_of}
 use Rattle.buttmitrel_live.proofs.Feeding.{unreported, no_state, no_report, report_kept}
-use borrow.Author.Rules.{rules}
 use Rattle.buttmitrel_live.proofs.buttmitrel_live_report.Goals as goal
 
 pub returns-in-Refused : goal.returns-in-Refused

@@ -6,7 +6,6 @@ use Rattle.live.specs.Calls.{sample_answer}
 use Rattle.live.proofs.Stepping.{no_sample}
 use Rattle.buttmitrel_live.specs.Live.{state_of}
 use Rattle.buttmitrel_live.proofs.Feeding.{stored_not, no_state, feeds}
-use borrow.Author.Rules.{rules}
 use Rattle.buttmitrel_live.proofs.buttmitrel_live_sample.Goals as goal
 
 pub returns-in-Refused : goal.returns-in-Refused

@@ -3,7 +3,6 @@ use Rattle.recording.specs.Recorder.{answer_of_drained, drained}
 use Rattle.recording.proofs.Turns.{only_stored}
 use Rattle.buttmitrel_recorder.specs.Numbers.{recorder_of}
 use Rattle.buttmitrel_recorder.proofs.SixNumbers.{one_stored, not_six, call_refused, call_taken}
-use borrow.Author.Rules.{rules}
 use Rattle.buttmitrel_recorder.proofs.buttmitrel_recorder_drain.Goals as goal
 
 pub returns-then-numbers-ne6 : goal.returns-then-numbers-ne6

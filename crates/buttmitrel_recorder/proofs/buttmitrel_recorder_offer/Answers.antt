@@ -6,7 +6,6 @@ use Rattle.recording.specs.Recorder.{answer_of_offered, offered}
 use Rattle.recording.proofs.OfferSteps.{same_sample}
 use Rattle.buttmitrel_recorder.specs.Numbers.{recorder_of}
 use Rattle.buttmitrel_recorder.proofs.SixNumbers.{not_six, call_refused, call_taken}
-use borrow.Author.Rules.{rules}
 use Rattle.buttmitrel_recorder.proofs.buttmitrel_recorder_offer.Goals as goal
 
 pub returns-then-numbers-ne6 : goal.returns-then-numbers-ne6

@@ -1,7 +1,6 @@
 use mathlib.Core.Path.{sym, ap, ◌∙◌}
 use Rattle.recording.specs.Recorder.{answer_of_started}
 use Rattle.buttmitrel_recorder.proofs.SixNumbers.{start_refused, start_not_six, started}
-use borrow.Author.Rules.{rules}
 use Rattle.buttmitrel_recorder.proofs.buttmitrel_recorder_start.Goals as goal
 
 pub returns-then-numbers-ne6 : goal.returns-then-numbers-ne6

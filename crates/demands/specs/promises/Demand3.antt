@@ -4,7 +4,7 @@ use Rattle.std.specs.Int.Signed.{le_z}
 use Rattle.refusals.specs.Refusals.{answer}
 use Rattle.rules.specs.Table.{row_at}
 use Rattle.rules.specs.Samples.{Sample, readings_of}
-use Rattle.rules.specs.Evaluation.{trips, clears, alert, status, evaluated, evaluations}
+use Rattle.rules.specs.Evaluation.{clears, alert, status, evaluated, evaluations}
 use Rattle.flags.specs.declared.Flag.{Flag}
 use Rattle.flags.specs.declared.Flag.TheVariants.{Clear, Held}
 use Rattle.flags.specs.declared.Output.{Output}

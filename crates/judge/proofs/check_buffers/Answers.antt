@@ -1,7 +1,6 @@
 use mathlib.Core.Path.{sym, ap, ◌∙◌}
 use Rattle.trace.specs.Sections.{answer_of_walk}
 use Rattle.judge.proofs.Buffers.{no_report, no_sections, no_verdicts, buffers_fit}
-use borrow.Author.Rules.{rules}
 use Rattle.judge.proofs.check_buffers.Goals as goal
 
 pub returns-then-report-ne187 : goal.returns-then-report-ne187

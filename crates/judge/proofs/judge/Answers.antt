@@ -7,7 +7,6 @@ use Rattle.demands.specs.Verdicts.{trace_verdicts}
 use Rattle.judge.specs.Judge.{answer_of_judged}
 use Rattle.judge.proofs.Buffers.{fit, left_by_buffers, left_by_trace, filled}
 use Rattle.judge.proofs.AcceptedParts.{accepted_whole, same_count}
-use borrow.Author.Rules.{rules}
 use Rattle.judge.proofs.judge.Goals as goal
 
 pub returns-in-Refused : goal.returns-in-Refused

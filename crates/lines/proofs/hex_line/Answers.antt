@@ -1,9 +1,6 @@
-use Prim.Native.Nat.{◌-◌}
 use mathlib.Core.Path.{refl}
-use native.Mathlib.Omega.{arith}
-use lib.ListN.{length}
 use borrow.Author.Rules.{rules}
-use Rattle.lines.proofs.HexLines.{Hexing, hexing_start, hexing_next, hexing_end}
+use Rattle.lines.proofs.HexLines.{hexing_start, hexing_next, hexing_end}
 use Rattle.lines.proofs.hex_line.Goals as goal
 
 pub loop-i-init : goal.loop-i-init

@@ -1,9 +1,5 @@
 use Prim.Native.Nat.{◌-◌}
-use mathlib.Core.Path.{refl}
-use native.Mathlib.Omega.{arith}
-use lib.ListN.{length}
-use borrow.Author.Rules.{rules}
-use Rattle.lines.proofs.HexLines.{Hexing, hexing_start, hexing_next, hexing_end}
+use Rattle.lines.proofs.HexLines.{Hexing}
 use Rattle.lines.proofs.hex_line.Given as goal
 
 abbrev pub invariant-loop-i : goal.invariant-loop-i

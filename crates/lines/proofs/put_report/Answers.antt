@@ -1,5 +1,4 @@
 use mathlib.Core.Path.{ap, ◌∙◌}
-use borrow.Author.Rules.{rules}
 use Rattle.bytes_le.specs.Writing.{put_at}
 use Rattle.lines.proofs.put_report.Goals as goal
 

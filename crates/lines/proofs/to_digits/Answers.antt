@@ -1,8 +1,6 @@
-use Prim.Native.Nat.{◌-◌}
 use native.Mathlib.Omega.{arith}
-use lib.ListN.{length, length-set}
-use borrow.Author.Rules.{rules}
-use Rattle.lines.proofs.Verdicts.{Turning, turning_start, turning_next, turning_end}
+use lib.ListN.{length-set}
+use Rattle.lines.proofs.Verdicts.{turning_start, turning_next, turning_end}
 use Rattle.lines.proofs.to_digits.Goals as goal
 
 pub loop-i-init : goal.loop-i-init

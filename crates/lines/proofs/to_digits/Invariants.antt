@@ -1,8 +1,6 @@
 use Prim.Native.Nat.{◌-◌}
-use native.Mathlib.Omega.{arith}
-use lib.ListN.{length, length-set}
-use borrow.Author.Rules.{rules}
-use Rattle.lines.proofs.Verdicts.{Turning, turning_start, turning_next, turning_end}
+use lib.ListN.{length}
+use Rattle.lines.proofs.Verdicts.{Turning}
 use Rattle.lines.proofs.to_digits.Given as goal
 
 abbrev pub invariant-loop-i : goal.invariant-loop-i

@@ -1,7 +1,6 @@
 use mathlib.Core.Path.{ap, sym, ◌∙◌}
 use Rattle.limits.specs.Limits.{answer_of_limits}
 use Rattle.live.proofs.Stepping.{begin_refused, begin_taken, few_cells, idle_over, as_rules}
-use borrow.Author.Rules.{rules}
 use Rattle.live.proofs.begin.Goals as goal
 
 pub returns-then-not-is_cell_count : goal.returns-then-not-is_cell_count

@@ -1,7 +1,6 @@
 use mathlib.Core.Path.{sym, ◌∙◌}
 use Rattle.live.specs.State.{with_hole}
 use Rattle.live.proofs.Stepping.{refused_call, no_hole}
-use borrow.Author.Rules.{rules}
 use Rattle.live.proofs.hole.Goals as goal
 
 pub take_hole-requires : goal.take_hole-requires

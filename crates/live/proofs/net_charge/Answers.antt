@@ -1,7 +1,6 @@
 use mathlib.Core.Path.{sym, ◌∙◌}
 use Rattle.totals.specs.Totals.{net_of}
 use Rattle.live.proofs.GoodStates.{parts}
-use borrow.Author.Rules.{rules}
 use Rattle.live.proofs.net_charge.Goals as goal
 
 pub returns-then-is_good : goal.returns-then-is_good

@@ -3,7 +3,6 @@ use Rattle.refusals.specs.Refusals.{answer}
 use Rattle.rules.specs.Table.{rows}
 use Rattle.flags.specs.Flags.{number_of}
 use Rattle.flags.specs.Outputs.{output_of, drivers, statuses_of}
-use borrow.Author.Rules.{rules}
 use Rattle.live.proofs.output.Goals as goal
 
 pub returns-then-is_good : goal.returns-then-is_good

@@ -3,7 +3,6 @@ use mir.Syntax.{w16}
 use mir.ValLaws.{to_z-of_z}
 use Rattle.live.specs.State.{with_sample}
 use Rattle.live.proofs.Stepping.{refused_call, no_sample}
-use borrow.Author.Rules.{rules}
 use Rattle.live.proofs.sample.Goals as goal
 
 pub take_sample-requires : goal.take_sample-requires

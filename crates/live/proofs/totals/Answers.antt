@@ -1,5 +1,4 @@
 use mathlib.Core.Path.{sym, ◌∙◌}
-use borrow.Author.Rules.{rules}
 use Rattle.live.proofs.totals.Goals as goal
 
 pub returns-then-is_good : goal.returns-then-is_good

@@ -1,23 +1,21 @@
 -- Paper 01, 'Live feed': a state that the calls answer is a good one, and fed an accepted trace's samples and holes by tick the feed ends with what the trace gives.
 use Rattle.std.specs.Prelude.{ℕ, zero, suc, ◌+◌, ◌≡◌, cond, List, [], ◌∷◌, T, ltb, length}
-use Rattle.refusals.specs.Refusals.{Answer, answer, refused, and_then}
+use Rattle.refusals.specs.Refusals.{Answer, answer, and_then}
 use Rattle.rules.specs.Samples.{Sample, I16}
 use Rattle.trace.specs.Records.{Hole, Stamped}
 use Rattle.trace.specs.Sections.{rules_part}
 use Rattle.trace.specs.Acceptance.{Parsed, accept_answer}
-use Rattle.states.specs.Readings.{all_flags}
 use Rattle.states.specs.promises.Tracking.{record_at}
 use Rattle.flags.specs.declared.Output.{Output}
 use Rattle.flags.specs.Flags.{number_of}
 use Rattle.flags.specs.Outputs.{drivers}
-use Rattle.fillings.specs.Fillings.{Config}
 use Rattle.fillings.specs.Flags.{flags_at}
 use Rattle.fillings.specs.Outputs.{output}
 use Rattle.fillings.specs.Charge.{least_charge, greatest_charge}
 use Rattle.ticks.specs.Traces.{Trace, trace_of, shown}
 use Rattle.demands.specs.Report.{totals_at}
 use Rattle.live.specs.declared.Live.{Live}
-use Rattle.live.specs.State.{good, with_sample, with_hole}
+use Rattle.live.specs.State.{good}
 use Rattle.live.specs.Calls.{begin_state, begin_answer, sample_answer, sample_state, hole_answer, hole_state, flags_read, output_read, totals_read, net_read}
 
 -- A beginning answers a good state, refused or not, and from a good state every call answers a good one again.

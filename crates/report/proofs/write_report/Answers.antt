@@ -1,7 +1,6 @@
 use mathlib.Core.Path.{◌≡◌}
 use native.Mathlib.Omega.{arith}
 use lib.ListN.{length}
-use borrow.Author.Rules.{rules}
 use Rattle.report.proofs.Puts.{put_then}
 use Rattle.report.proofs.WholeReport.{report_refused, report_kept, report_answered, report_written}
 use Rattle.report.proofs.write_report.Goals as goal

@@ -1,5 +1,5 @@
 -- What is promised of the ticks of an accepted trace.
-use Rattle.std.specs.Prelude.{ℕ, suc, ◌+◌, ◌-◌, ◌/◌, ◌≤◌, ◌<◌, ◌≡◌, false, not, ◌||◌, List, [], ◌∷◌, ℤ, T, length}
+use Rattle.std.specs.Prelude.{ℕ, suc, ◌+◌, ◌-◌, ◌≤◌, ◌<◌, ◌≡◌, false, not, ◌||◌, List, [], ◌∷◌, ℤ, T}
 use Rattle.refusals.specs.Refusals.{answer}
 use Rattle.bytes_le.specs.Numbers.{u16_at}
 use Rattle.limits.specs.Limits.{settings_of}

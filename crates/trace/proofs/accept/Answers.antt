@@ -1,7 +1,6 @@
 use mathlib.Core.Path.{sym, ◌∙◌, ap}
 use Rattle.trace.specs.Sections.{answer_of_walk}
 use Rattle.trace.proofs.Outcomes.{refuses, no_sections}
-use borrow.Author.Rules.{rules}
 use Rattle.trace.proofs.accept.Goals as goal
 
 pub accept_layout-requires : goal.accept_layout-requires

@@ -1,6 +1,5 @@
 use Rattle.trace.specs.Sections.{answer_of_walk, reply_count}
 use mathlib.Core.Path.{sym, ◌∙◌, ap}
-use borrow.Author.Rules.{rules}
 use Rattle.trace.proofs.reply_count.Goals as goal
 
 pub returns-in-Refused : goal.returns-in-Refused

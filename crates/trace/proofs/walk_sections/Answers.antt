@@ -1,9 +1,6 @@
-use mathlib.Core.Path.{◌≡◌, sym, ◌∙◌, ap}
+use mathlib.Core.Path.{sym, ◌∙◌, ap}
 use native.Mathlib.Omega.{arith}
-use Rattle.refusals.specs.Refusals.{answer}
-use Rattle.trace.specs.Sections.{head_answer, section_answer}
 use Rattle.trace.specs.inner.Checks.{answer_of_checked, answer_of_section}
-use Rattle.trace.specs.declared.sections.Sectioned.TheVariants.{At}
 use Rattle.trace.proofs.Layouts.{Begun, rules_long, section_is}
 use Rattle.trace.proofs.Walks.{no_head, no_rules, no_holes, no_replies, no_samples, left_over, whole}
 use borrow.Author.Rules.{rules}

@@ -2,9 +2,7 @@ use mathlib.Core.Path.{sym, ap, ◌∙◌}
 use Prim.Native.Nat.{◌+◌}
 use native.Mathlib.Omega.{arith}
 use lib.ListN.{length}
-use borrow.Author.Rules.{rules}
 use borrow.Author.Tests.{leb-true}
-use Rattle.walk.specs.declared.Cursor.{Cursor}
 use Rattle.walk.specs.declared.Ahead.TheVariants.{Unseen, Sample}
 use Rattle.walk.proofs.Looking.{hole_holds, at_the_end, unseen_ahead, sample_ahead, none_ahead}
 use Rattle.walk.proofs.look_ahead.Goals as goal

@@ -1,4 +1,3 @@
-use borrow.Author.Rules.{rules}
 use Rattle.walk.proofs.Looking.{ends_inside, ends_with}
 use Rattle.walk.proofs.past_run.Goals as goal
 

@@ -1,5 +1,4 @@
 use Rattle.buttmitrel_live.proofs.KeptLists.{not_four, much_unseen, by_ticks}
-use borrow.Author.Rules.{rules}
 use Rattle.buttmitrel_live.proofs.keeping.are_totals.Goals as goal
 
 pub returns-then-totals-ne4 : goal.returns-then-totals-ne4

@@ -1,6 +1,5 @@
 use native.Mathlib.Omega.{arith}
 use Rattle.buttmitrel_live.proofs.KeptLists.{four_long, unseen_fits, ticks_fit}
-use borrow.Author.Rules.{rules}
 use Rattle.buttmitrel_live.proofs.keeping.copy_totals.Goals as goal
 
 pub bounds-totals-0 : goal.bounds-totals-0

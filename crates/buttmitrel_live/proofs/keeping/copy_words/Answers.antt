@@ -1,7 +1,5 @@
-use Prim.Native.Nat.{◌-◌}
 use mathlib.Core.Path.{refl}
-use native.Mathlib.Omega.{arith}
-use Rattle.buttmitrel_live.proofs.KeptLists.{Copying, copying_start, copying_next, copying_end}
+use Rattle.buttmitrel_live.proofs.KeptLists.{copying_start, copying_next, copying_end}
 use Rattle.buttmitrel_live.proofs.keeping.copy_words.Goals as goal
 
 pub loop-i-init : goal.loop-i-init

@@ -1,7 +1,5 @@
 use Prim.Native.Nat.{◌-◌}
-use mathlib.Core.Path.{refl}
-use native.Mathlib.Omega.{arith}
-use Rattle.buttmitrel_live.proofs.KeptLists.{Copying, copying_start, copying_next, copying_end}
+use Rattle.buttmitrel_live.proofs.KeptLists.{Copying}
 use Rattle.buttmitrel_live.proofs.keeping.copy_words.Given as goal
 
 abbrev pub invariant-loop-i : goal.invariant-loop-i

@@ -1,6 +1,5 @@
 use mathlib.Core.Path.{sym, ◌∙◌}
 use Rattle.buttmitrel_live.proofs.KeptLists.{unfilled, short_words, no_totals, filled}
-use borrow.Author.Rules.{rules}
 use Rattle.buttmitrel_live.proofs.keeping.fill.Goals as goal
 
 pub returns-then-words-ne80 : goal.returns-then-words-ne80

@@ -1,7 +1,6 @@
 use mathlib.Core.Path.{sym, ap, ◌∙◌}
 use Rattle.live.specs.Calls.{answer_of_fed}
 use Rattle.buttmitrel_live.proofs.KeptLists.{unloaded, loaded}
-use borrow.Author.Rules.{rules}
 use Rattle.buttmitrel_live.proofs.keeping.load.Goals as goal
 
 pub returns-in-Refused : goal.returns-in-Refused

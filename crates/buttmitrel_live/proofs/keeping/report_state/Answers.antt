@@ -2,7 +2,6 @@ use mathlib.Core.Path.{sym, ap, ◌∙◌}
 use Rattle.live.specs.Calls.{answer_of_fed}
 use Rattle.report.specs.Layout.{answer_of_report}
 use Rattle.buttmitrel_live.proofs.Feeding.{unreported, reports, short_buffer}
-use borrow.Author.Rules.{rules}
 use Rattle.buttmitrel_live.proofs.keeping.report_state.Goals as goal
 
 pub returns-in-Refused : goal.returns-in-Refused

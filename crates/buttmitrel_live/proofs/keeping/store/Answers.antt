@@ -4,7 +4,6 @@ use Rattle.live.specs.declared.Fed.{Fed}
 use Rattle.live.specs.Calls.{answer_of_fed}
 use Rattle.buttmitrel_live.specs.Live.{begun_answer}
 use Rattle.buttmitrel_live.proofs.Feeding.{stored_not, words_refused, totals_refused, lists_fit, stored}
-use borrow.Author.Rules.{rules}
 use Rattle.buttmitrel_live.proofs.keeping.store.Goals as goal
 
 pub returns-then-words-ne80 : goal.returns-then-words-ne80

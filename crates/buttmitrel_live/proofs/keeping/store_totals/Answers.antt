@@ -1,5 +1,4 @@
 use Rattle.buttmitrel_live.proofs.KeptLists.{four_stored}
-use borrow.Author.Rules.{rules}
 use Rattle.buttmitrel_live.proofs.keeping.store_totals.Goals as goal
 
 pub returns : goal.returns

@@ -1,8 +1,5 @@
 use Prim.Native.Nat.{◌-◌}
-use mathlib.Core.Path.{sym, ◌∙◌}
-use native.Mathlib.Omega.{arith}
-use borrow.Author.Rules.{rules}
-use Rattle.buttmitrel_live.proofs.KeptLists.{Copying, copying_start, copying_next, copying_end}
+use Rattle.buttmitrel_live.proofs.KeptLists.{Copying}
 use Rattle.buttmitrel_live.proofs.keeping.store_words.Given as goal
 
 abbrev pub invariant-loop-i : goal.invariant-loop-i

@@ -1,9 +1,6 @@
-use Prim.Native.Nat.{◌-◌}
 use mathlib.Core.Path.{refl}
-use native.Mathlib.Omega.{arith}
-use Rattle.lists.proofs.Laying.{Laying, laying_start, laying_next, laying_end}
+use Rattle.lists.proofs.Laying.{laying_start, laying_next, laying_end}
 use Rattle.judge.specs.inner.Ending.{joined}
-use Rattle.judge.proofs.Joining.{both}
 use Rattle.judge.proofs.ending.join_firsts.Goals as goal
 
 pub loop-i-init : goal.loop-i-init

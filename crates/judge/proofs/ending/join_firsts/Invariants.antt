@@ -1,8 +1,5 @@
 use Prim.Native.Nat.{◌-◌}
-use mathlib.Core.Path.{refl}
-use native.Mathlib.Omega.{arith}
-use Rattle.lists.proofs.Laying.{Laying, laying_start, laying_next, laying_end}
-use Rattle.judge.specs.inner.Ending.{joined}
+use Rattle.lists.proofs.Laying.{Laying}
 use Rattle.judge.proofs.Joining.{both}
 use Rattle.judge.proofs.ending.join_firsts.Given as goal
 

@@ -1,6 +1,5 @@
 use mathlib.Core.Path.{◌∙◌}
 use native.Mathlib.Omega.{arith}
-use borrow.Author.Rules.{rules}
 use Rattle.trace.proofs.Layouts.{holes_start, replies_start}
 use Rattle.judge.proofs.AcceptedParts.{parts, is_parts, report_is, verdicts_are}
 use Rattle.judge.proofs.parts.judge_accepted.Goals as goal

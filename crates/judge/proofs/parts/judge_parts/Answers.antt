@@ -3,7 +3,6 @@ use Rattle.judge.proofs.Ends.{stop_start, report_end}
 use Rattle.bounds.specs.Lanes.{paired}
 use native.Mathlib.Omega.{arith}
 use mathlib.Core.Path.{refl}
-use borrow.Author.Rules.{rules}
 use Rattle.judge.proofs.parts.judge_parts.Goals as goal
 
 pub judge_records-requires : goal.judge_records-requires

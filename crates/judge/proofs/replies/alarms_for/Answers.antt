@@ -5,7 +5,6 @@ use Rattle.judge.proofs.Points.{other_command}
 use Rattle.verdicts.specs.Verdicts.{verdict_of}
 use Rattle.verdicts.specs.declared.Alarms.{Alarms}
 use mathlib.Core.Path.{ap, sym, ◌∙◌}
-use borrow.Author.Rules.{rules}
 use Rattle.judge.proofs.replies.alarms_for.Goals as goal
 
 pub returns-then-command-eq22 : goal.returns-then-command-eq22

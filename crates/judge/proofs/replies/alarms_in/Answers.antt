@@ -1,5 +1,4 @@
 use mathlib.Core.Path.{◌≡◌}
-use borrow.Author.Rules.{rules}
 use Rattle.flags.specs.declared.Flag.{Flag}
 use Rattle.flags.specs.Flags.{number_of}
 use Rattle.flags.proofs.OutputLaws.{by_number}

@@ -1,10 +1,9 @@
-use borrow.Author.Rules.{rules}
-use Prim.Native.Nat.{ℕ, ◌+◌, ◌-◌, ◌*◌, ◌≤◌}
+use Prim.Native.Nat.{ℕ, ◌+◌}
 use mathlib.Core.Path.{sym, ap, ◌∙◌}
 use native.Mathlib.Omega.{arith}
-use lib.ListN.{length, length-set}
+use lib.ListN.{length-set}
 use Rattle.judge.proofs.Knowing.{long, long_firsts}
-use Rattle.judge.proofs.Judging.{Judging, judging_start, next_reply, in_replies, six_bytes, judging_next, not_past, judging_end, known_there}
+use Rattle.judge.proofs.Judging.{judging_start, next_reply, in_replies, six_bytes, judging_next, not_past, judging_end, known_there}
 use Rattle.judge.proofs.replies.judge_records.Goals as goal
 
 pub loop-j-init : goal.loop-j-init

@@ -1,5 +1,4 @@
 use mathlib.Core.Path.{ap}
-use borrow.Author.Rules.{rules}
 use Rattle.verdicts.specs.Verdicts.{answer_of_verdict}
 use Rattle.judge.proofs.Points.{number_is, never_unjudged}
 use Rattle.judge.proofs.replies.verdict_on.Goals as goal

@@ -2,7 +2,6 @@ use native.Mathlib.Omega.{arith}
 use mathlib.Core.Path.{refl, ap, ap₂, sym, ◌∙◌}
 use lib.ListN.{take, replicate}
 use lib.Seq.{length-take-le}
-use borrow.Author.Rules.{rules}
 use Rattle.refusals.specs.Refusals.{answer}
 use Rattle.trace.specs.Acceptance.{accept_answer}
 use Rattle.judge.specs.Judge.{answer_of_judged}
@@ -17,7 +16,7 @@ slice_bounds-verdicts-end c = sym (length-take-le c.args.n c.buffer-space.result
 
 pub put_accepted-requires : goal.put_accepted-requires
 put_accepted-requires c = let counted = length-take-le c.args.n c.buffer-space.result (omega (arith, c.requires.1, c.buffer-space.ensures)) in
-    (c.requires.0, omega (arith, c.requires.1, c.judge.auto.1.1.0, counted))
+    (c.requires.0, omega (arith, c.requires.1, c.judge.auto.verdicts, counted))
 
 pub returns-in-Refused : goal.returns-in-Refused
 returns-in-Refused c = let s = c.args.s.now in

@@ -1,5 +1,4 @@
 use Rattle.live.proofs.Stepping.{begun_is}
-use borrow.Author.Rules.{rules}
 use Rattle.live.proofs.beginning.begun.Goals as goal
 
 pub returns : goal.returns

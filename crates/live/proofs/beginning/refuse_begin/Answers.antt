@@ -1,7 +1,6 @@
 use mathlib.Core.Path.{ap}
 use Rattle.live.specs.declared.Live.{Live}
 use Rattle.live.specs.declared.Fed.TheVariants.{Refused}
-use borrow.Author.Rules.{rules}
 use Rattle.live.proofs.beginning.refuse_begin.Goals as goal
 
 pub returns : goal.returns

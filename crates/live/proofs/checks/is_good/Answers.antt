@@ -1,6 +1,5 @@
 use mathlib.Core.Path.{sym, ◌∙◌}
 use Rattle.live.proofs.GoodStates.{all_good, no_states, no_rules, no_head}
-use borrow.Author.Rules.{rules}
 use Rattle.live.proofs.checks.is_good.Goals as goal
 
 pub returns-then-valid : goal.returns-then-valid

@@ -2,7 +2,6 @@ use mathlib.Core.Path.{ap, sym, ◌∙◌}
 use Rattle.refusals.specs.Refusals.{passes}
 use Rattle.limits.specs.declared.Limited.{Limited}
 use Rattle.limits.specs.Limits.{answer_of_limits}
-use borrow.Author.Rules.{rules}
 use Rattle.live.proofs.checks.rules_within.Goals as goal
 
 pub returns-in-Within : goal.returns-in-Within

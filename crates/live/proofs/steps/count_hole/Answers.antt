@@ -1,7 +1,6 @@
 use Prim.Native.Nat.{suc, ◌+◌, ◌-◌}
 use mathlib.Core.Path.{◌≡◌}
 use native.Mathlib.Omega.{arith}
-use borrow.Author.Rules.{rules}
 use Rattle.live.proofs.steps.count_hole.Goals as goal
 
 pub returns : goal.returns

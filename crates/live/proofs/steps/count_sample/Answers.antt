@@ -3,7 +3,6 @@ use mir.Syntax.{w16}
 use mir.ValLaws.{to_z-of_z}
 use Rattle.fillings.specs.Charge.{inward, outward}
 use Rattle.live.proofs.Stepping.{sample_counted}
-use borrow.Author.Rules.{rules}
 use Rattle.live.proofs.steps.count_sample.Goals as goal
 
 pub returns : goal.returns

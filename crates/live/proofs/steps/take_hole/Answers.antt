@@ -1,5 +1,4 @@
 use Rattle.live.proofs.Stepping.{refuses, takes, hole_early, hole_late, hole_taken}
-use borrow.Author.Rules.{rules}
 use Rattle.live.proofs.steps.take_hole.Goals as goal
 
 pub returns-then-last-expected : goal.returns-then-last-expected

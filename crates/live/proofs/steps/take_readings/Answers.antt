@@ -2,7 +2,6 @@ use mathlib.Core.Path.{sym, ◌∙◌}
 use mir.Syntax.{w16}
 use mir.ValLaws.{to_z-of_z}
 use Rattle.live.proofs.Stepping.{refuses, takes, tick_other, tick_next, tick_late}
-use borrow.Author.Rules.{rules}
 use Rattle.live.proofs.steps.take_readings.Goals as goal
 
 pub returns-then-tick-expected : goal.returns-then-tick-expected

@@ -1,9 +1,8 @@
-use mathlib.Core.Path.{◌≡◌, sym, ap, ◌∙◌}
+use mathlib.Core.Path.{sym, ap, ◌∙◌}
 use mir.Syntax.{w16}
 use mir.ValLaws.{to_z-of_z}
-use Rattle.samples.specs.Answers.{answer_of_read, read_answer}
+use Rattle.samples.specs.Answers.{answer_of_read}
 use Rattle.live.proofs.Stepping.{refuses, unread, read}
-use borrow.Author.Rules.{rules}
 use Rattle.live.proofs.steps.take_sample.Goals as goal
 
 pub returns-in-Refused : goal.returns-in-Refused

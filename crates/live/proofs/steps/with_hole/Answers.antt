@@ -1,6 +1,5 @@
 use Rattle.live.proofs.GoodStates.{parts, counted}
 use Rattle.live.proofs.Stepping.{hole_state_lem}
-use borrow.Author.Rules.{rules}
 use Rattle.live.proofs.steps.with_hole.Goals as goal
 
 pub count_hole-total-requires : goal.count_hole-total-requires

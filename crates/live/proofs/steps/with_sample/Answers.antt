@@ -5,7 +5,6 @@ use Rattle.live.specs.inner.Steps.{count_sample}
 use native.Mathlib.Omega.{arith}
 use Rattle.live.proofs.GoodStates.{parts, counted}
 use Rattle.live.proofs.Stepping.{sample_state_lem}
-use borrow.Author.Rules.{rules}
 use Rattle.live.proofs.steps.with_sample.Goals as goal
 
 pub count_sample-total-requires : goal.count_sample-total-requires

@@ -1,7 +1,6 @@
 use Prim.Native.Nat.{ℕ}
 use mathlib.Core.Path.{ap}
 use mathlib.Core.List.{[], ◌∷◌}
-use borrow.Author.Rules.{rules}
 use Rattle.report.proofs.Puts.{put_one, put_as}
 use Rattle.report.proofs.parts.put_flag.Goals as goal
 

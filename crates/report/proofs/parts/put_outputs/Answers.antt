@@ -1,4 +1,3 @@
-use borrow.Author.Rules.{rules}
 use Rattle.report.proofs.Puts.{put_then, put_number}
 use Rattle.report.proofs.parts.put_outputs.Goals as goal
 

@@ -1,9 +1,9 @@
-use Prim.Native.Nat.{◌-◌, ◌<◌}
+use Prim.Native.Nat.{◌<◌}
 use mathlib.Core.Path.{◌≡◌}
 use native.Mathlib.Omega.{arith}
 use lib.ListN.{length}
 use borrow.Author.Rules.{rules}
-use Rattle.report.proofs.RuleRuns.{Rules, rules_start, rules_next, rules_end, long_of}
+use Rattle.report.proofs.RuleRuns.{rules_start, rules_next, rules_end, long_of}
 use Rattle.report.proofs.parts.put_rules.Goals as goal
 
 pub loop-i-init : goal.loop-i-init

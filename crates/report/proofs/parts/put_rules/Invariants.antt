@@ -1,9 +1,5 @@
-use Prim.Native.Nat.{◌-◌, ◌<◌}
-use mathlib.Core.Path.{◌≡◌}
-use native.Mathlib.Omega.{arith}
-use lib.ListN.{length}
-use borrow.Author.Rules.{rules}
-use Rattle.report.proofs.RuleRuns.{Rules, rules_start, rules_next, rules_end, long_of}
+use Prim.Native.Nat.{◌-◌}
+use Rattle.report.proofs.RuleRuns.{Rules}
 use Rattle.report.proofs.parts.put_rules.Given as goal
 
 abbrev pub invariant-loop-i : goal.invariant-loop-i

@@ -1,5 +1,4 @@
 use native.Mathlib.Omega.{arith}
-use borrow.Author.Rules.{rules}
 use Rattle.report.proofs.Puts.{put_bytes, put_then}
 use Rattle.report.proofs.parts.put_totals.Goals as goal
 

@@ -1,5 +1,4 @@
 use mathlib.Core.Path.{ap₂}
-use borrow.Author.Rules.{rules}
 use Rattle.totals.specs.declared.NetCharge.TheVariants.{Between}
 use Rattle.totals.proofs.NetBounds.{sure_exact, less_exact, more_exact}
 use Rattle.totals.proofs.net.bounds.Goals as goal

@@ -1,9 +1,8 @@
 use mathlib.Core.Path.{ap, ◌∙◌}
 use native.Mathlib.Omega.{arith}
-use borrow.Author.Rules.{rules}
 use Rattle.trace.proofs.Layouts.{holes_start}
 use Rattle.totals.specs.Totals.{answer_of_net}
-use Rattle.totals.proofs.AcceptedTotals.{Totalled, parts, totalled, between_same}
+use Rattle.totals.proofs.AcceptedTotals.{parts, totalled, between_same}
 use Rattle.totals.proofs.net.net_of.Goals as goal
 
 pub slice_bounds-count_unseen-count : goal.slice_bounds-count_unseen-count

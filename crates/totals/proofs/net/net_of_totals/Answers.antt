@@ -3,7 +3,6 @@ use mathlib.Core.Path.{ap, sym, ◌∙◌}
 use native.Mathlib.Omega.{arith}
 use Rattle.totals.specs.Totals.{net_of, answer_of_net}
 use Rattle.totals.proofs.NetBounds.{counted}
-use borrow.Author.Rules.{rules}
 use Rattle.totals.proofs.net.net_of_totals.Goals as goal
 
 pub bounds-requires : goal.bounds-requires

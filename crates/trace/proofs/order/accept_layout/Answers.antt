@@ -1,9 +1,8 @@
-use mathlib.Core.Path.{refl, sym, ◌∙◌, ap}
+use mathlib.Core.Path.{sym, ◌∙◌, ap}
 use Rattle.limits.specs.Limits.{answer_of_limits}
 use Rattle.trace.specs.Acceptance.{answer_of_accept}
 use Rattle.trace.proofs.Layouts.{parts_are}
 use Rattle.trace.proofs.Outcomes.{refuses, no_rules, no_records, accepted}
-use borrow.Author.Rules.{rules}
 use Rattle.trace.proofs.order.accept_layout.Goals as goal
 
 pub slice_bounds-check_rules-end : goal.slice_bounds-check_rules-end

@@ -1,14 +1,9 @@
 use Prim.Native.Nat.{◌+◌}
-use mathlib.Core.Path.{◌≡◌, sym, ◌∙◌, ap}
+use mathlib.Core.Path.{sym, ◌∙◌, ap}
 use native.Mathlib.Omega.{arith}
-use Rattle.refusals.specs.Refusals.{answer}
-use Rattle.trace.specs.Records.{holes_in}
-use Rattle.trace.specs.Sections.{holes_part}
-use Rattle.trace.specs.Coverage.{holes_answer}
 use Rattle.trace.specs.inner.Checks.{answer_of_checked, answer_of_cover}
 use Rattle.trace.proofs.Layouts.{parts_are, holes_start, replies_start, few_holes, few_replies}
 use Rattle.trace.proofs.TickBounds.{gap_small, ticks_small}
-use borrow.Author.Rules.{rules}
 use Rattle.trace.proofs.order.accept_records.Goals as goal
 
 pub slice_bounds-holes-count : goal.slice_bounds-holes-count

@@ -1,6 +1,5 @@
 use mathlib.Core.Path.{sym, ◌∙◌, ap}
 use Rattle.trace.specs.inner.Checks.{answer_of_checked}
-use borrow.Author.Rules.{rules}
 use Rattle.trace.proofs.order.accept_replies.Goals as goal
 
 pub returns-in-Refused : goal.returns-in-Refused

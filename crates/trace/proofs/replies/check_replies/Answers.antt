@@ -1,9 +1,6 @@
-use Prim.Native.Nat.{◌-◌, ◌/◌}
 use mathlib.Core.Path.{sym}
-use native.Mathlib.Omega.{arith}
-use lib.ListN.{length}
 use Rattle.trace.specs.Records.{reply_at}
-use Rattle.trace.proofs.RecordTurns.{Left, start, stop, next, end, of_replies, reply_is}
+use Rattle.trace.proofs.RecordTurns.{start, stop, next, end, of_replies, reply_is}
 use Rattle.trace.proofs.replies.check_replies.Goals as goal
 
 pub loop-i-init : goal.loop-i-init

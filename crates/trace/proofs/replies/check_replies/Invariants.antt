@@ -1,9 +1,7 @@
 use Prim.Native.Nat.{◌-◌, ◌/◌}
-use mathlib.Core.Path.{sym}
-use native.Mathlib.Omega.{arith}
 use lib.ListN.{length}
 use Rattle.trace.specs.Records.{reply_at}
-use Rattle.trace.proofs.RecordTurns.{Left, start, stop, next, end, of_replies, reply_is}
+use Rattle.trace.proofs.RecordTurns.{Left, of_replies}
 use Rattle.trace.proofs.replies.check_replies.Given as goal
 
 abbrev pub invariant-loop-i : goal.invariant-loop-i
