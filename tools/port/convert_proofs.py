@@ -1,8 +1,13 @@
 #!/usr/bin/env python3
-"""convert.py CRATE..: turns crates/CRATE/proofs/**/Proof.antt (tie.spec form) into Invariants.antt and Answers.antt."""
+"""Turns proofs that answer goals one by one in a Proof.antt (tie.spec) into Invariants.antt and Answers.antt.
+
+usage: tools/port/convert_proofs.py NAMES CRATE..     at the top, once, after respell.py (docs/PORT.md); NAMES is what `rt names NAMES` wrote
+
+Answers that Rattle finds by itself (`search rules`, `omega arith`) are left out. What several clauses or joined arms need is mended by hand.
+"""
 import json, os, re, sys
-ROOT='/work/main'
-NAMES='/tmp/w/names1/crates'
+ROOT = "."
+NAMES = os.path.join(sys.argv[1], "crates") if len(sys.argv) > 1 else ""
 norm=lambda s: s.replace('-','_')
 IDC=r"[^\s(){}\[\],;.:«»λ→=|@\"↦]+"
 
@@ -197,7 +202,7 @@ def convert(crate, path, info, modpath):
     return dropped,len(ans),problems
 
 def main():
-    for crate in sys.argv[1:]:
+    for crate in sys.argv[2:]:
         js=json.load(open(f'{NAMES}/{crate}/names.json'))
         byf={}
         for k,v in js.items():
