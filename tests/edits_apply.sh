@@ -1,5 +1,5 @@
 #!/usr/bin/env bash
-# The edits of crates/*/must-fail, and those of must-fail-more, which tools/try_edits tries: each still says something of the code.
+# The edits of crates/*/must-fail: each still says something of the code.
 # Every `old:` text stands in its file once, the text that replaces it is another, and docs/CLAIMS.md names the edit.
 set -u
 edits=0 failed=0
@@ -9,8 +9,8 @@ bad() { # MESSAGE
     failed=1
 }
 
-for edit in crates/*/must-fail/*.edit crates/*/must-fail-more/*.edit; do
-    crate=${edit%/must-fail*} file='' old='' pairs=0
+for edit in crates/*/must-fail/*.edit; do
+    crate=${edit%/must-fail/*} file='' old='' pairs=0
     edits=$((edits + 1))
     while IFS= read -r line; do
         case $line in
