@@ -1,32 +1,26 @@
 use native.Mathlib.Omega.{arith}
 use lib.ListN.{length-take, length-drop}
-use Rattle.trace.proofs.Layouts.{PartsAre, holes_start}
+use Rattle.trace.proofs.Layouts.{holes_start}
 use Rattle.totals.proofs.AcceptedTotals.{parts}
-use borrow.Author.Rules.{rules}
-use Rattle.feed_trace.proofs.feed_accepted.Given as given
 use Rattle.feed_trace.proofs.feed_accepted.Goals as goal
 
--- Where the parts lie.
-there : (g : given.Over) (c : goal.Start g) → PartsAre c.args.s.now c.args.l
-there g c = parts _ _ c.requires.1
-
 pub slice_bounds-begin-end : goal.slice_bounds-begin-end
-slice_bounds-begin-end g c = (there g c).long
+slice_bounds-begin-end g c = (parts _ _ c.requires.1).long
 
 pub slice_bounds-feed_all-count : goal.slice_bounds-feed_all-count
-slice_bounds-feed_all-count g c = holes_start (there g c)
+slice_bounds-feed_all-count g c = holes_start (parts _ _ c.requires.1)
 
 pub slice_bounds-feed_all-start : goal.slice_bounds-feed_all-start
-slice_bounds-feed_all-start g c = holes_start (there g c)
+slice_bounds-feed_all-start g c = holes_start (parts _ _ c.requires.1)
 
 pub slice_bounds-feed_all-end : goal.slice_bounds-feed_all-end
-slice_bounds-feed_all-end g c = (there g c).holes_end
+slice_bounds-feed_all-end g c = (parts _ _ c.requires.1).holes_end
 
 pub slice_bounds-feed_all-count-2 : goal.slice_bounds-feed_all-count-2
-slice_bounds-feed_all-count-2 g c = (there g c).samples
+slice_bounds-feed_all-count-2 g c = (parts _ _ c.requires.1).samples
 
 pub slice_bounds-feed_all-start-2 : goal.slice_bounds-feed_all-start-2
-slice_bounds-feed_all-start-2 g c = (there g c).samples
+slice_bounds-feed_all-start-2 g c = (parts _ _ c.requires.1).samples
 
 pub feed_all-fed-requires : goal.feed_all-fed-requires
 feed_all-fed-requires g c = let h = c.requires.0 in

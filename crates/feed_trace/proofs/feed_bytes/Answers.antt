@@ -1,4 +1,3 @@
-use borrow.Author.Rules.{rules}
 use Rattle.totals.proofs.AcceptedTotals.{accepted_by}
 use Rattle.feed_trace.proofs.feed_bytes.Goals as goal
 

@@ -2,7 +2,6 @@ use mathlib.Core.Path.{◌≡◌, sym}
 use native.Mathlib.Omega.{arith}
 use lib.ListN.{length}
 use lib.Seq.{length-take-le}
-use borrow.Author.Rules.{rules}
 use Rattle.live_cases.proofs.calls.begun.Goals as goal
 
 pub slice_bounds-begin-end : goal.slice_bounds-begin-end

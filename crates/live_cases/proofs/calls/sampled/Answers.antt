@@ -1,6 +1,5 @@
 use mathlib.Core.Path.{sym}
 use lib.Seq.{length-take-le}
-use borrow.Author.Rules.{rules}
 use Rattle.live_cases.proofs.calls.sampled.Goals as goal
 
 pub slice_bounds-sample-end : goal.slice_bounds-sample-end

@@ -1,5 +1,4 @@
 use Prim.Native.Nat.{◌-◌, ◌≤◌}
-use borrow.Author.Rules.{rules}
 use Rattle.live_cases.proofs.same.same_settings.Given as goal
 
 abbrev pub invariant-loop-i : goal.invariant-loop-i
