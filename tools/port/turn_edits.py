@@ -1,21 +1,19 @@
 #!/usr/bin/env python3
 """Brings the must-fail edits to the spelling of the ported text.
 
-usage: tools/port/turn_edits.py REV TODAY [EDIT..]     at the top; REV: the commit whose text the edits fit, TODAY: the folder with the ported crates
+usage: tools/port/turn_edits.py REV TODAY              at the top; REV: the commit whose text the edits fit, TODAY: the folder with the ported crates
+       tools/port/turn_edits.py REV TODAY --compare    writes nothing, and shows TODAY's edits beside what the script makes of REV's, where they differ
 
 Each 'old:' is sought in REV's file and turned word by word, as the ported file spells it; 'new:' is turned with the same words. An edit is
 written where each 'old:' then stands exactly once in the ported file; the others are named, to be turned by hand.
 """
 import collections
 import difflib
-import glob
 import os
 import re
 import subprocess
 import sys
 
-SNAKE_FROM = os.path.join(os.path.dirname(os.path.abspath(__file__)), "respell.py")
-TOKEN = re.compile(r"[^\W\d_][\w'′-]*|[^\s]")
 NAME = re.compile(r"[^\s(){}\[\],;.:«»λ→=|@\"↦`⌜⌝]+")
 
 
@@ -112,71 +110,79 @@ def turn(text, words, line, antt):
     return lead + NAME.sub(word, text) + end
 
 
-def main():
-    rev, today, only = sys.argv[1], sys.argv[2], sys.argv[3:]
-    edits = only or sorted(glob.glob("crates/*/must-fail/*.edit") + glob.glob("crates/*/must-fail/more/*.edit"))
-    learned = {}
-    kept = turned = 0
-    for path in edits:
-        crate = path.split("/")[1]
-        if crate not in learned:
-            words = collections.defaultdict(collections.Counter)
-            for p in subprocess.run(["git", "ls-tree", "-r", "--name-only", rev, f"crates/{crate}/src", f"crates/{crate}/specs"], capture_output=True, text=True).stdout.split():
-                here = os.path.join(today, p)
-                if os.path.exists(here):
-                    a, b = show(rev, p).split("\n"), open(here, encoding="utf-8").read().split("\n")
-                    learn(a, b, aligned(a, b), words)
-            learned[crate] = words
-        words = learned[crate]
-        source = show(rev, path)
-        if source is None:
-            print("new since:", path)
-            continue
-        lines, out, wrong = source.split("\n"), [], []
-        texts = {}
+def of(rev, folder):
+    return [p for p in subprocess.run(["git", "ls-tree", "-r", "--name-only", rev, folder], capture_output=True, text=True).stdout.split("\n") if p]
+
+
+class Crate:
+    """The texts of a crate at the commit and in the ported folder, and the words that they teach."""
+
+    def __init__(self, rev, today, name):
+        self.rev, self.folder, self.name = rev, os.path.join(today, "crates", name), name
+        self.words = collections.defaultdict(collections.Counter)
+        self.files = {}
+        for p in of(rev, f"crates/{name}/src") + of(rev, f"crates/{name}/specs"):
+            old, new, became = self.texts(p.split("/", 2)[2])
+            if new is not None:
+                learn(old.split("\n"), new.split("\n"), became, self.words)
+
+    def texts(self, file):
+        if file not in self.files:
+            here = os.path.join(self.folder, file)
+            old = show(self.rev, f"crates/{self.name}/{file}")
+            new = open(here, encoding="utf-8").read() if os.path.exists(here) else None
+            self.files[file] = old, new, aligned(old.split("\n"), new.split("\n")) if new is not None else None
+        return self.files[file]
+
+    def turned(self, source):
+        """The edit with the ported text's words, and what is wrong with it."""
+        out, wrong, lines, file = [], [], source.split("\n"), None
         for n, line in enumerate(lines):
             if line.startswith("file:"):
                 file = line[5:].strip()
-                if file not in texts:
-                    here = os.path.join(today, "crates", crate, file)
-                    old = show(rev, f"crates/{crate}/{file}")
-                    new = open(here, encoding="utf-8").read() if os.path.exists(here) else None
-                    texts[file] = [old, new, aligned(old.split("\n"), new.split("\n")) if new is not None else None]
-                out.append(line)
-            elif line.startswith("old:"):
-                lead = " " if line.startswith("old: ") else ""
-                old, new, became = texts[file]
-                o = line[4 + len(lead):]
-                nl = lines[n + 1]
-                x = nl[4:].removeprefix(" ")
-                if new is None:
+                if self.texts(file)[1] is None:
                     wrong.append(f"no file {file}")
-                    out += [line, nl]
-                    continue
-                at = old[:old.index(o)].count("\n") if o in old else None
-                k = became[at] if at is not None and at < len(became) else None
-                now = new.split("\n")[k] if k is not None else ""
-                antt = file.endswith(".antt") or "ensures" in now or "requires" in now
-                to, tx = turn(o, words, now, antt), turn(x, words, now, antt)
-                if new.count(to) != 1 or (k is not None and to not in now):
-                    wrong.append(f"{file}: {o!r} -> {to!r} stands {new.count(to)} times; there now: {now!r}")
-                if to == tx:
-                    wrong.append("old and new alike")
-                out += ["old:" + lead + to, "new:" + lead + tx]
-            elif line.startswith("new:"):
+            if not line.startswith("old:"):
+                if not line.startswith("new:"):
+                    out.append(line)
                 continue
-            else:
-                out.append(line)
-        text = "\n".join(out)
-        if wrong:
+            old, new, became = self.texts(file)
+            o, x = line[4:].removeprefix(" "), lines[n + 1][4:].removeprefix(" ")
+            k = became[old[:old.index(o)].count("\n")] if became and o in old else None
+            now = new.split("\n")[k] if k is not None else ""
+            antt = file.endswith(".antt") or "ensures" in now or "requires" in now
+            to, tx = turn(o, self.words, now, antt), turn(x, self.words, now, antt)
+            if new is not None and (new.count(to) != 1 or k is not None and to not in now):
+                wrong.append(f"{file}: {o!r} -> {to!r} stands {new.count(to)} times; there now: {now!r}")
+            if to == tx:
+                wrong.append("old and new alike")
+            out += ["old: " + to, "new: " + tx]
+        return "\n".join(out), wrong
+
+
+def main():
+    rev, today, compare = sys.argv[1], sys.argv[2], "--compare" in sys.argv
+    edits = [p for p in of(rev, "crates") if p.endswith(".edit")]
+    crates, count = {}, collections.Counter()
+    for path in edits:
+        name = path.split("/")[1]
+        if name not in crates:
+            crates[name] = Crate(rev, today, name)
+        text, wrong = crates[name].turned(show(rev, path))
+        if compare:
+            here = [p for p in (os.path.join(today, path), os.path.join(today, "crates", name, "must-fail", os.path.basename(path))) if os.path.exists(p)]
+            is_now = open(here[0], encoding="utf-8").read() if here else ""
+            count["alike" if text == is_now else "other"] += 1
+            if text != is_now:
+                print(path if here else path + " is gone")
+                print("".join(f"    {l}\n" for l in difflib.unified_diff(text.split("\n"), is_now.split("\n"), n=0, lineterm="") if l[:2] not in ("--", "++", "@@")), end="")
+        elif wrong:
+            count["by hand"] += 1
             print("by hand:", path, *wrong, sep="\n    ")
-        elif text == source:
-            kept += 1
         else:
-            turned += 1
-        if not wrong:
+            count["turned"] += 1
             open(path, "w", encoding="utf-8").write(text)
-    print(f"{kept} stand as they were, {turned} turned, {len(edits) - kept - turned} left")
+    print(len(edits), "edits:", ", ".join(f"{n} {what}" for what, n in sorted(count.items())))
 
 
 main()
