@@ -7,6 +7,8 @@ use mathlib.Core.Logic.{⊎_elim}
 use mathlib.Core.Bool.{Bool, true, false, cond}
 use lib.Dec.{T, eqb}
 use borrow.Author.Tests.{ne_eqb, eqb-true}
+use Rattle.std.specs.Bool.{then_some}
+use Rattle.std.specs.Option.{unwrap_or}
 use Rattle.fillings.specs.Flags.{first_from}
 use Rattle.bounds.specs.Firsts.{none, noted}
 
@@ -21,6 +23,11 @@ noted_same first = go (eqb first none) refl
     go : (b : Bool) → eqb first none ≡ b → cond b none first ≡ first
     go true e = sym (eqb-true first none e)
     go false e = refl
+
+-- A tick that is found or not, as a number.
+pub found_or_none : (b : Bool) (tick : ℕ) → unwrap_or (then_some b tick) none ≡ cond b tick none
+found_or_none true tick = refl
+found_or_none false tick = refl
 
 -- The first of the c ticks from i on, of which a come first and n follow from j on.
 pub first_parts : (i a n c j : ℕ) (test : ℕ → Bool) → c ≡ a + n → j ≡ i + a → j ≤ none

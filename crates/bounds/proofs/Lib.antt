@@ -1,10 +1,10 @@
 pub mod Numbers
 pub mod Values
 pub mod Paired
-pub mod Pairing
+pub mod Halves
 pub mod Moving
-pub mod MissingRuns
-pub mod Noting
+pub mod Seeing
+pub mod Missing
 pub mod FirstLaws
 pub mod RunTicks
 pub mod FirstTicks

@@ -1,14 +1,12 @@
 -- Two lanes for each of the sixteen rules, by their numbers.
 use Prim.Native.Nat.{ℕ, ◌+◌, ◌-◌, ◌<◌}
 use native.Mathlib.Omega.{arith}
-use mathlib.Core.Path.{◌≡◌, refl, ap, sym, ◌∙◌}
+use mathlib.Core.Path.{◌≡◌, refl, ap, ◌∙◌}
 use mathlib.Core.Bool.{Bool, true, false, cond}
-use mathlib.Core.List.{List}
 use lib.Dec.{ltb}
 use lib.ListN.{get_or, length}
-use lib.Seq.{ext_get_or}
 use borrow.Author.Tests.{lt-ltb, le-ltb, ltb-true, ltb-false}
-use Rattle.lists.proofs.Bools.{by_order, length_tabulate, get_d_tabulate, tabulate_same}
+use Rattle.lists.proofs.Bools.{length_tabulate, get_d_tabulate, tabulate_same}
 use Rattle.bounds.specs.Lanes.{paired}
 
 module _ {A : Type 0} (f g : ℕ → A) where
@@ -34,15 +32,6 @@ module _ {A : Type 0} (f g : ℕ → A) where
   pub paired_high : (d : A) (i : ℕ) → i < 16 → get_or (paired f g) (16 + i) d ≡ g i
   unfolding paired
   paired_high d i h = get_d_tabulate 32 lane d (16 + i) (omega arith) ∙ lane_high i
-
-  -- A list with these lanes.
-  pub paired_all : (xs : List A) (d : A) → length xs ≡ 32 → ((i : ℕ) → i < 16 → get_or xs i d ≡ f i) → ((i : ℕ) → i < 16 → get_or xs (16 + i) d ≡ g i)
-      → xs ≡ paired f g
-  paired_all xs d e low high =
-      ext_get_or d xs (paired f g) (e ∙ sym paired_length)
-      (λ j h. by_order j 16 (λ l. low j l ∙ sym (paired_low d j l))
-      (λ l. let k : 16 + (j - 16) ≡ j = omega arith in
-      ap (λ n. get_or xs n d) (sym k) ∙ high (j - 16) (omega arith) ∙ sym (paired_high d (j - 16) (omega arith)) ∙ ap (λ n. get_or (paired f g) n d) k))
 
 pub paired_same : {A : Type 0} (f g f' g' : ℕ → A) → ((i : ℕ) → i < 16 → f i ≡ f' i) → ((i : ℕ) → i < 16 → g i ≡ g' i) → paired f g ≡ paired f' g'
 unfolding paired

@@ -1,9 +1,9 @@
 -- What the rules read of a sample, rule by rule.
 use Prim.Native.Nat.{◌-◌}
-use mathlib.Core.Path.{◌≡◌, refl, ◌∙◌}
+use mathlib.Core.Path.{◌≡◌, refl, ap, ◌∙◌}
 use mathlib.Core.List.{[], ◌∷◌}
 use lib.IntN.{ℤ, pos}
-use mir.Syntax.{Width}
+use mir.Syntax.{Width, w32}
 use mir.Val.{to_z, of_z, SFits}
 use mir.Facts.{to_z-of_z}
 use Rattle.rules.specs.declared.Readings.{Readings}
@@ -11,10 +11,14 @@ use Rattle.rules.specs.declared.Side.TheVariants.{Low}
 use Rattle.rules.specs.Quantities.{value}
 use Rattle.bounds.specs.Plan.{along}
 use Rattle.bounds.specs.inner.Marks.{values_of}
+use Rattle.bounds.proofs.Numbers.{mirror_is}
 
--- A signed number that a call gave.
+-- A signed number that a call gave, and one mirrored.
 pub told : {w : Width} {z u : ℤ} → SFits w z → z ≡ u → to_z w (of_z w z) ≡ u
 told f e = to_z-of_z f ∙ e
+
+pub mirror_told : {z u : ℤ} → SFits w32 z → z ≡ u → to_z w32 (4294967295 - of_z w32 z) ≡ along Low u
+mirror_told {z} f e = mirror_is z f ∙ ap (along Low) e
 
 pub values_are : (r : Readings) {high low sum less current drawn warm board cold apart : ℤ}
     → high ≡ pos r.highest_cell → low ≡ along Low (pos r.lowest_cell) → sum ≡ pos r.sum_of_cells → less ≡ along Low (pos r.sum_of_cells)

@@ -1,39 +1,31 @@
 // The first ticks of the states.
-ghost use Rattle.std.specs.Prelude.{◌≡◌, ◌+◌, ◌<◌, get_or, length, set};
-ghost use Rattle.bounds.specs.Firsts.{noted, noted_at, firsts_noted};
+ghost use Rattle.std.specs.Prelude.{◌≡◌, length};
+ghost use Rattle.std.specs.Option.{unwrap_or};
+ghost use Rattle.bounds.specs.Firsts.{none, noted};
+ghost use Rattle.bounds.specs.inner.Firsts.{half_noted};
 
 use crate::reading::is_top;
 
-pub(crate) const NONE: u32 = 0xFFFFFFFF;
+// The report's own number for no tick: the judge writes the first ticks into its bytes as they stand.
+const NONE: u32 = 0xFFFFFFFF;
 
 // A first tick once found stays.
-pub(crate) fn note(found: u32, first: u32) -> u32
-    ensures { result ≡ noted found first }
+pub(crate) fn note(found: Option<u32>, first: u32) -> u32
+    ensures { result ≡ noted (unwrap_or found none) first }
 {
-    if first == NONE { found } else { first }
-}
-
-// Notes the tick of a lane whose state is at the top.
-fn note_lane(firsts: &mut [u32], j: usize, tick: u32, top: u8, s: u8)
-    requires { j < length firsts.old }
-    ensures { firsts.new ≡ set firsts.old j (noted_at top tick s (get_or firsts.old j 0)) }
-{
-    let first = firsts[j];
-    if is_top(top, s) {
-        firsts[j] = note(tick, first);
+    match found {
+        Some(tick) if first == NONE => tick,
+        _ => first,
     }
 }
 
-// Notes the tick of every state that is at the top.
+// Notes the tick of each of the least states or the greatest that is at the top.
 pub(crate) fn note_states(lanes: &[u8; 32], tick: u32, states: &[u8], firsts: &mut [u32])
-    requires { (length states.now ≡ 32) × (length firsts.old ≡ 32) }
-    ensures { firsts.new ≡ firsts_noted lanes.now tick states.now firsts.old }
+    requires { (length states.now ≡ 16) × (length firsts.old ≡ 16) }
+    ensures { firsts.new ≡ half_noted lanes.now tick states.now firsts.old }
 {
-    let mut i: usize = 0;
-    while i < 16 {
-        let top = lanes[i];
-        note_lane(firsts, i, tick, top, states[i]);
-        note_lane(firsts, 16 + i, tick, top, states[16 + i]);
-        i += 1;
+    for i in 0..16 {
+        let found = is_top(lanes[i], states[i]).then_some(tick);
+        firsts[i] = note(found, firsts[i]);
     }
 }

@@ -1,86 +1,80 @@
 // The states of all rules by a tick's marks.
-ghost use Rattle.std.specs.Prelude.{◌≡◌, cond, ◌||◌, ◌<◌, ltb, get_or, length, set};
+ghost use Rattle.std.specs.Prelude.{◌≡◌, cond, length};
 ghost use Rattle.lists.specs.Lists.{some_below};
-ghost use Rattle.rules.specs.Evaluation.{top, step};
-ghost use Rattle.bounds.specs.Firsts.{rises, rules_rise};
-ghost use Rattle.bounds.specs.inner.Marks.{states_moved};
+ghost use Rattle.rules.specs.Evaluation.{step};
+ghost use Rattle.bounds.specs.Firsts.{rises};
+ghost use Rattle.bounds.specs.inner.Marks.{half_moved, either_rises};
 
-use rules::and;
+use crate::marks::Marks;
 
-// The lane of a rule's top state.
-pub(crate) fn top_lane(time: u8) -> u8
-    ensures { result ≡ top time }
-{
-    time
+// How the states of a rule move at a tick: whether it is evaluated, its top state, and what the evaluation finds.
+#[derive(Clone, Copy)]
+pub(crate) struct Move {
+    pub go: bool,
+    pub top: u8,
+    pub trip: bool,
+    pub clear: bool,
 }
 
-// The lane of whether a rule is evaluated at every tick.
-pub(crate) fn every_lane(even: bool) -> u8
-    ensures { result ≡ cond even 0 1 }
-{
-    if even { 0 } else { 1 }
-}
+impl Move {
+    // A state after an evaluation. To call `rules::step_state`, which is of 64 bits, a state would be widened, the answer cut, and
+    // the cut proved: no plainer.
+    #[tactic(auto, unfolding(rules::specs::Evaluation::step))]
+    fn stepped(self, s: u8) -> u8
+        ensures { result ≡ step self.top self.trip self.clear s }
+    {
+        if s < self.top {
+            if self.trip { s + 1 } else { 0 }
+        } else {
+            if self.clear { 0 } else { self.top }
+        }
+    }
 
-// Whether a rule is evaluated.
-fn goes(every: u8, even: bool) -> bool
-    ensures { result ≡ (ltb 0 every || even) }
-{
-    if 0 < every { true } else { even }
-}
+    // A state after the tick.
+    pub(crate) fn after(self, s: u8) -> u8
+        ensures { result ≡ cond self.go (step self.top self.trip self.clear s) s }
+    {
+        let next = self.stepped(s);
+        if self.go { next } else { s }
+    }
 
-// A state after an evaluation with these marks.
-fn stepped(top: u8, trip: u8, clear: u8, s: u8) -> u8
-    ensures { result ≡ step top (ltb 0 trip) (ltb 0 clear) s }
-{
-    if s < top {
-        if 0 < trip { s + 1 } else { 0 }
-    } else {
-        if 0 < clear { 0 } else { top }
+    // Moves a state, and answers whether it comes to the top.
+    fn apply(self, state: &mut u8) -> bool
+        ensures state { state.new ≡ cond self.go (step self.top self.trip self.clear state.old) state.old }
+        ensures rises { result ≡ rises self.top state.old state.new }
+    {
+        let s = *state;
+        let next = self.after(s);
+        *state = next;
+        (s < self.top) & (next == self.top)
     }
 }
 
-fn chosen(go: bool, next: u8, s: u8) -> u8
-    ensures { result ≡ cond go next s }
-{
-    if go { next } else { s }
-}
-
-// Whether a state comes to the top.
-fn has_risen(top: u8, s: u8, next: u8) -> bool
-    ensures { result ≡ rises top s next }
-{
-    and(s < top, next == top)
-}
-
-// Moves the state of a lane, and answers whether it comes to the top.
-fn move_lane(states: &mut [u8], j: usize, go: bool, top: u8, trip: u8, clear: u8) -> bool
-    requires { j < length states.old }
-    ensures states { states.new ≡ set states.old j (cond go (step top (ltb 0 trip) (ltb 0 clear) (get_or states.old j 0)) (get_or states.old j 0)) }
-    ensures rises { result ≡ rises top (get_or states.old j 0) (get_or states.new j 0) }
-{
-    let s = states[j];
-    let next = chosen(go, stepped(top, trip, clear, s), s);
-    states[j] = next;
-    has_risen(top, s, next)
-}
-
-// Moves all states, and answers whether one comes to its top.
-pub(crate) fn move_states(marks: [u8; 32], lanes: &[u8; 32], even: bool, states: &mut [u8]) -> bool
-    requires { length states.old ≡ 32 }
-    ensures states { states.new ≡ states_moved marks lanes.now even states.old }
-    ensures rises { result ≡ some_below 16 (rules_rise lanes.now states.old states.new) }
+// Moves all states, and answers whether one comes to its top. One loop without a branch moves both halves: two loops would be
+// unrolled, and then no vectors are made of them.
+pub(crate) fn move_states(
+    marks: &Marks,
+    lanes: &[u8; 32],
+    even: bool,
+    least: &mut [u8],
+    greatest: &mut [u8],
+) -> bool
+    requires { (length least.old ≡ 16) × (length greatest.old ≡ 16) }
+    ensures least { least.new ≡ half_moved marks.now lanes.now even least.old }
+    ensures greatest { greatest.new ≡ half_moved marks.now lanes.now even greatest.old }
+    ensures rises { result ≡ some_below 16 (either_rises lanes.now least.old least.new greatest.old greatest.new) }
 {
     let mut any = false;
-    let mut i: usize = 0;
-    while i < 16 {
-        let go = goes(lanes[16 + i], even);
-        let top = lanes[i];
-        let trip = marks[i];
-        let clear = marks[16 + i];
-        let least = move_lane(states, i, go, top, trip, clear);
-        let greatest = move_lane(states, 16 + i, go, top, trip, clear);
-        any = any | (least | greatest);
-        i += 1;
+    for i in 0..16 {
+        let rule = Move {
+            go: (0 < lanes[16 + i]) | even,
+            top: lanes[i],
+            trip: marks.trips[i],
+            clear: marks.clears[i],
+        };
+        let least_rises = rule.apply(&mut least[i]);
+        let greatest_rises = rule.apply(&mut greatest[i]);
+        any |= least_rises | greatest_rises;
     }
     any
 }

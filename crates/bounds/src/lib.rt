@@ -15,14 +15,17 @@ mod plan;
 mod reading;
 mod unseen;
 
-use firsts::note_states;
+use firsts::{note, note_states};
 use flags::{Flag, Flags, RuleFlags};
-use lanes::move_states;
+use lanes::{Move, move_states};
 use marks::marks_of;
 use plan::test_at;
 use reading::{flow_of, rule_flags, values_of};
 use rules::{Readings, Settings};
-use unseen::miss_rule;
+use unseen::{greatest_missed, top_tick};
+
+// The greatest sum of cells that is read: one of 31 bits, since the rules compare signed numbers.
+const GREATEST_SUM: u32 = i32::MAX as u32;
 
 // The tests of the rules in four groups: the thresholds while no current flows, while it flows in and while it flows out, and the
 // recoveries, each number as the side of its rule reads it.
@@ -30,14 +33,10 @@ pub fn tests_of(settings: Settings) -> [i32; 64]
     ensures { result ≡ tests_of settings.of }
 {
     let table = rules::all_rows();
-    let mut tests: [i32; 64] = [0; 64];
-    let mut j: usize = 0;
-    while j < 64 {
+    let mut tests = [0; 64];
+    for j in 0..64 {
         let i = j % 16;
-        let setting = settings.of[i];
-        let row = table.of[i];
-        tests[j] = test_at(j / 16, row, setting);
-        j += 1;
+        tests[j] = test_at(j / 16, table.of[i], settings.of[i]);
     }
     tests
 }
@@ -47,14 +46,11 @@ pub fn lanes_of(settings: Settings) -> [u8; 32]
     ensures { result ≡ lanes_of settings.of }
 {
     let table = rules::all_rows();
-    let mut lanes: [u8; 32] = [0; 32];
-    let mut i: usize = 0;
-    while i < 16 {
-        let setting = settings.of[i];
-        let row = table.of[i];
-        lanes[i] = lanes::top_lane(setting.time);
-        lanes[16 + i] = lanes::every_lane(row.even);
-        i += 1;
+    let mut lanes = [0; 32];
+    let (tops, every) = lanes.split_at_mut(16);
+    for i in 0..16 {
+        tops[i] = settings.of[i].time;
+        every[i] = u8::from(!table.of[i].even);
     }
     lanes
 }
@@ -74,42 +70,45 @@ pub fn see(
     ensures firsts { firsts.new ≡ firsts_read lanes.now tick r states.old states.new firsts.old }
     ensures within { T (readable r states.old firsts.old) → Within32 r }
 {
-    if 2147483647 < r.sum_of_cells {
+    if GREATEST_SUM < r.sum_of_cells || states.len() != 32 || firsts.len() != 32 {
         return;
     }
-    if states.len() != 32 {
-        return;
-    }
-    if firsts.len() != 32 {
-        return;
-    }
-    let values = values_of(r);
-    let base = 16 * flow_of(idle, r);
-    let marks = marks_of(values, base, tests);
-    if move_states(marks, lanes, tick % 2 == 0, states) {
-        note_states(lanes, tick, states, firsts);
+    let marks = marks_of(values_of(r), 16 * flow_of(idle, r), tests);
+    let even = tick % 2 == 0;
+    let (least, greatest) = states.split_at_mut(16);
+    if move_states(&marks, lanes, even, least, greatest) {
+        let (held, possible) = firsts.split_at_mut(16);
+        note_states(lanes, tick, least, held);
+        note_states(lanes, tick, greatest, possible);
     }
 }
 
 // Moves the states by the unseen ticks from first to last, where they stand, and notes the first ticks. A part of the judge, as
-// `see`: lists of other lengths stay as they are.
+// `see`: lists of other lengths stay as they are. In a hole no status becomes held.
 pub fn miss(lanes: &[u8; 32], first: u32, last: u32, states: &mut [u8], firsts: &mut [u32])
     ensures states { states.new ≡ cond (sized states.old firsts.old) (states_missed lanes.now first last states.old) states.old }
     ensures firsts { firsts.new ≡ cond (sized states.old firsts.old) (firsts_missed lanes.now first last states.old firsts.old) firsts.old }
 {
-    if states.len() != 32 {
-        return;
-    }
-    if firsts.len() != 32 {
+    if states.len() != 32 || firsts.len() != 32 {
         return;
     }
     let table = rules::all_rows();
-    let mut i: usize = 0;
-    while i < 16 {
+    let (least, greatest) = states.split_at_mut(16);
+    let (_, possible) = firsts.split_at_mut(16);
+    for i in 0..16 {
         let row = table.of[i];
         let top = lanes[i];
-        miss_rule(row, i, top, first, last, states, firsts);
-        i += 1;
+        let n = rules::evaluations_in(row, first, last);
+        let s = greatest[i];
+        let least_move = Move {
+            go: 0 < n,
+            top,
+            trip: false,
+            clear: row.recovers,
+        };
+        least[i] = least_move.after(least[i]);
+        greatest[i] = greatest_missed(top, n, s);
+        possible[i] = note(top_tick(row, top, first, last, n, s), possible[i]);
     }
 }
 
@@ -125,13 +124,9 @@ pub fn flags_in(lanes: &[u8; 32], states: &[u8]) -> Flags
     if states.len() != 32 {
         return flags;
     }
-    let mut i: usize = 0;
-    while i < 16 {
-        let top = lanes[i];
-        let least = states[i];
-        let greatest = states[16 + i];
-        flags.of[i] = rule_flags(top, least, greatest);
-        i += 1;
+    let (least, greatest) = states.split_at(16);
+    for i in 0..16 {
+        flags.of[i] = rule_flags(lanes[i], least[i], greatest[i]);
     }
     flags
 }

@@ -1,20 +1,13 @@
 // What the rules read of a sample, each as its side reads it, and the flags of one rule.
-ghost use Rattle.std.specs.Prelude.{◌≡◌, ◌≤◌, pos};
+ghost use Rattle.std.specs.Prelude.{◌≡◌, ◌≤◌};
 ghost use Rattle.rules.specs.Evaluation.{status};
 ghost use Rattle.rules.specs.declared.Row.{Row};
 ghost use Rattle.fillings.specs.Bounds.{flags_between};
-ghost use Rattle.rules.specs.declared.Side.TheVariants.{Low};
 ghost use Rattle.bounds.specs.Plan.{along, flow_of};
 ghost use Rattle.bounds.specs.inner.Marks.{values_of};
 
 use flags::RuleFlags;
-use rules::{Readings, Side, and};
-
-fn mirrored(v: i32) -> i32
-    ensures { result ≡ along Low v }
-{
-    !v
-}
+use rules::{Readings, Side};
 
 // A number as a side reads it.
 pub(crate) fn number_along(side: Side, v: i32) -> i32
@@ -22,30 +15,11 @@ pub(crate) fn number_along(side: Side, v: i32) -> i32
 {
     match side {
         Side::High => v,
-        Side::Low => mirrored(v),
+        Side::Low => !v,
     }
 }
 
-fn of_u16(v: u16) -> i32
-    ensures { result ≡ pos v }
-{
-    v as i32
-}
-
-fn of_i16(v: i16) -> i32
-    ensures { result ≡ v }
-{
-    v as i32
-}
-
-fn of_sum(v: u32) -> i32
-    requires { v ≤ 2147483647 }
-    ensures { result ≡ pos v }
-{
-    v as i32
-}
-
-// Which way the current flows.
+// Which way the current flows: a number, as in the definitions that callers read, since a group of tests is found by it.
 pub(crate) fn flow_of(idle: u16, r: Readings) -> usize
     ensures { (result ≡ flow_of idle r) × (result ≤ 2) }
 {
@@ -63,19 +37,17 @@ pub(crate) fn values_of(r: Readings) -> [i32; 16]
     requires { r.sum_of_cells ≤ 2147483647 }
     ensures { result ≡ values_of r }
 {
-    let high = of_u16(r.highest_cell);
-    let low = mirrored(of_u16(r.lowest_cell));
-    let sum = of_sum(r.sum_of_cells);
-    let less = mirrored(sum);
-    let current = of_i16(r.current);
-    let drawn = mirrored(current);
-    let warm = of_i16(r.highest_temp);
-    let board = of_i16(r.board);
-    let cold = mirrored(of_i16(r.lowest_temp));
-    let apart = of_u16(rules::difference(r.highest_cell, r.lowest_cell));
+    let high = i32::from(r.highest_cell);
+    let low = !i32::from(r.lowest_cell);
+    let sum = r.sum_of_cells as i32;
+    let current = i32::from(r.current);
+    let warm = i32::from(r.highest_temp);
+    let board = i32::from(r.board);
+    let cold = !i32::from(r.lowest_temp);
+    let apart = i32::from(rules::difference(r.highest_cell, r.lowest_cell));
     [
-        high, low, sum, less, current, drawn, warm, warm, board, cold, high, current, drawn, warm,
-        warm, apart,
+        high, low, sum, !sum, current, !current, warm, warm, board, cold, high, current, !current,
+        warm, warm, apart,
     ]
 }
 
@@ -83,7 +55,7 @@ pub(crate) fn values_of(r: Readings) -> [i32; 16]
 pub(crate) fn is_top(top: u8, s: u8) -> bool
     ensures { result ≡ status top s }
 {
-    and(0 < top, s == top)
+    0 < top && s == top
 }
 
 // The flags of a rule, from its least and its greatest state.
@@ -91,7 +63,7 @@ pub(crate) fn rule_flags(top: u8, least: u8, greatest: u8) -> RuleFlags
     ensures { (row : Row) → result ≡ flags_between row top least greatest }
 {
     RuleFlags {
-        alert: flags::flag_of(0 < greatest, !(0 < least)),
+        alert: flags::flag_of(0 < greatest, least == 0),
         status: flags::flag_of(is_top(top, greatest), !is_top(top, least)),
     }
 }

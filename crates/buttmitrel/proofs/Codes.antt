@@ -11,7 +11,7 @@ use mir.Syntax.{w64}
 use mir.Val.{to_z, of_z, SFits}
 use mir.ValLaws.{to_z-of_z}
 use Rattle.refusals.specs.Refusals.{Answer, answer, refused, or_kept}
-use Rattle.totals.specs.Totals.{Bounds}
+use Rattle.totals.specs.declared.NetCharge.{NetCharge}
 use Rattle.buttmitrel.specs.Code.{code_of, refusal_code, into_two, two_after, into}
 
 -- Numbers stored one by one in a list as long as they are.
@@ -32,19 +32,13 @@ module _ {A X : Type 0} (k : ℕ) (list : List X) (new : A → List X) (a : Answ
   pub refused_call : {n number place : ℕ} → n ≡ refusal_code number place → refused number place ≡ a → (n ≡ code_of (into k list a)) × (list ≡ or_kept (into k list a) new list)
   refused_call n e = rw (← e) (n, refl)
 
--- Two numbers stored in a list of two.
-two_stored : (two : List ℤ) (a b : ℤ) → length two ≡ 2 → set (set two 0 a) 1 b ≡ a ∷ b ∷ []
-two_stored [] a b l = absurd (omega arith)
-two_stored (x ∷ []) a b l = absurd (omega arith)
-two_stored (x ∷ y ∷ []) a b l = refl
-two_stored (x ∷ y ∷ z ∷ zs) a b l = absurd (omega arith)
-
-module _ (two : List ℤ) (a : Answer Bounds) where
+-- The same of a list for two numbers.
+module _ (two : List ℤ) (a : Answer NetCharge) where
   pub two_written : (low high : ℤ) → length two ≡ 2 → SFits w64 low → SFits w64 high → answer (record { least = low; greatest = high }) ≡ a
       → (0 ≡ code_of (into_two two a)) × (set (set two 0 (to_z w64 (of_z w64 low))) 1 (to_z w64 (of_z w64 high)) ≡ two_after two (into_two two a))
-  two_written low high l f g e = rw (to_z-of_z w64 low f, to_z-of_z w64 high g, two_stored two low high l, ← e, l) (refl, refl)
+  two_written low high l f g e = rw (to_z-of_z w64 low f, to_z-of_z w64 high g, all_stored (low ∷ high ∷ []) two l, ← e, l) (refl, refl)
 
-  pub refused_two : {n : ℕ} {b : Bounds} → (length two ≡ 2 → ⊥) → n ≡ refusal_code 15 0 → answer b ≡ a → (n ≡ code_of (into_two two a)) × (two ≡ two_after two (into_two two a))
+  pub refused_two : {n : ℕ} {b : NetCharge} → (length two ≡ 2 → ⊥) → n ≡ refusal_code 15 0 → answer b ≡ a → (n ≡ code_of (into_two two a)) × (two ≡ two_after two (into_two two a))
   refused_two d n e = rw (← e, ne_eqb (length two) 2 d) (n, refl)
 
   pub refused_net : {n number place : ℕ} → n ≡ refusal_code number place → refused number place ≡ a → (n ≡ code_of (into_two two a)) × (two ≡ two_after two (into_two two a))

@@ -2,7 +2,7 @@
 use Rattle.std.specs.Prelude.{ℕ, ◌+◌, ◌*◌, cond, List, [], ◌∷◌, ℤ, eqb, length}
 use Rattle.refusals.specs.Refusals.{Answer, answer, refused}
 use Rattle.samples.specs.declared.Voltages.{Voltages}
-use Rattle.totals.specs.Totals.{Bounds}
+use Rattle.totals.specs.declared.NetCharge.{NetCharge}
 
 -- The number and the place of a refusal as one number.
 abbrev pub refusal_code : ℕ → ℕ → ℕ
@@ -24,7 +24,7 @@ into_two two (answer a) = cond (eqb (length two) 2) (answer a) (refused 15 0)
 into_two two (refused number place) = refused number place
 
 -- The list afterwards: least and greatest, or what it held.
-abbrev pub two_after : List ℤ → Answer Bounds → List ℤ
+abbrev pub two_after : List ℤ → Answer NetCharge → List ℤ
 two_after two (answer b) = b.least ∷ b.greatest ∷ []
 two_after two (refused number place) = two
 

@@ -3,7 +3,7 @@
 #![tactic(auto)]
 
 ghost use Rattle.std.specs.Prelude.{◌≡◌};
-ghost use Rattle.refusals.specs.Refusals.{refusal, or_kept};
+ghost use Rattle.refusals.specs.Refusals.{answer_of, refusal, or_kept};
 ghost use Rattle.pec.specs.Reply.{seal_answer, sealed, check_answer};
 ghost use Rattle.trace.specs.Sections.{walk_answer, reply_count};
 ghost use Rattle.samples.specs.Answers.{cells_answer};
@@ -11,18 +11,23 @@ ghost use Rattle.totals.specs.Totals.{net_answer};
 ghost use Rattle.judge.specs.Judge.{judge_answer, report_after, verdicts_after};
 ghost use Rattle.buttmitrel.specs.Code.{code_of, value_code, into_two, two_after, into, voltages_list};
 
-use judge::Judged;
-use pec::{Checked, Sealed};
 use refusals::Refusal;
-use samples::CellsRead;
-use totals::NetCharge;
-use trace::ReplyCount;
 
 // A refusal as one number.
 pub fn code(why: Refusal) -> u64
     ensures { result ≡ code_of {A = Unit {0}} (refusal why) }
 {
-    (refusals::number(why) as u64) * 4294967296 + (refusals::place(why) as u64)
+    (why.number() as u64) * 4294967296 + (why.place() as u64)
+}
+
+// A call that was carried out or refused, as one number.
+pub fn status(answer: Result<(), Refusal>) -> u64
+    ensures { result ≡ code_of (answer_of answer) }
+{
+    match answer {
+        Ok(()) => 0,
+        Err(why) => code(why),
+    }
 }
 
 // Judges a trace into a report of 187 bytes and a verdict buffer as long as its reply count.
@@ -31,10 +36,7 @@ pub fn buttmitrel_judge(s: &[u8], report: &mut [u8], verdicts: &mut [u8]) -> u64
     ensures report { report.new ≡ report_after s.now report.old verdicts.old }
     ensures verdicts { verdicts.new ≡ verdicts_after s.now report.old verdicts.old }
 {
-    match judge::judge(s, report, verdicts) {
-        Judged::Accepted => 0,
-        Judged::Refused(why) => code(why),
-    }
+    status(judge::judge(s, report, verdicts))
 }
 
 // The reply count of a trace, or the refusal of the walk over its sections.
@@ -42,8 +44,8 @@ pub fn buttmitrel_reply_count(s: &[u8]) -> u64
     ensures { result ≡ value_code (reply_count (walk_answer s.now)) }
 {
     match trace::reply_count(s) {
-        ReplyCount::Replies(n) => n as u64,
-        ReplyCount::Refused(why) => code(why),
+        Ok(n) => n as u64,
+        Err(why) => code(why),
     }
 }
 
@@ -52,10 +54,7 @@ pub fn buttmitrel_seal(command: u8, word: u16, reply: &mut [u8]) -> u64
     ensures answer { result ≡ code_of (seal_answer reply.old) }
     ensures bytes { reply.new ≡ sealed command word reply.old }
 {
-    match pec::seal(command, word, reply) {
-        Sealed::Written => 0,
-        Sealed::Refused(why) => code(why),
-    }
+    status(pec::seal(command, word, reply))
 }
 
 // 0 for a whole reply, 1 for a wrong address byte, 2 for a wrong packet error code.
@@ -63,10 +62,8 @@ pub fn buttmitrel_check(reply: &[u8]) -> u64
     ensures { result ≡ value_code (check_answer reply.now) }
 {
     match pec::check(reply) {
-        Checked::Intact => 0,
-        Checked::WrongAddress => 1,
-        Checked::WrongCode => 2,
-        Checked::Refused(why) => code(why),
+        Ok(checked) => checked.number() as u64,
+        Err(why) => code(why),
     }
 }
 
@@ -76,13 +73,13 @@ pub fn buttmitrel_net_charge(s: &[u8], bounds: &mut [i64]) -> u64
     ensures bounds { bounds.new ≡ two_after bounds.old (into_two bounds.old (net_answer s.now)) }
 {
     match totals::net_charge(s) {
-        NetCharge::Refused(why) => code(why),
-        NetCharge::Between { least, greatest } => {
+        Err(why) => code(why),
+        Ok(net) => {
             if bounds.len() != 2 {
                 return code(Refusal::BufferLength);
             }
-            bounds[0] = least;
-            bounds[1] = greatest;
+            bounds[0] = net.least;
+            bounds[1] = net.greatest;
             0
         }
     }
@@ -94,8 +91,8 @@ pub fn buttmitrel_cells(volts: &[u16], three: &mut [u32]) -> u64
     ensures three { three.new ≡ or_kept (into 3 three.old (cells_answer volts.now)) voltages_list three.old }
 {
     match samples::read_cells(volts) {
-        CellsRead::Refused(why) => code(why),
-        CellsRead::Taken(v) => {
+        Err(why) => code(why),
+        Ok(v) => {
             if three.len() != 3 {
                 return code(Refusal::BufferLength);
             }

@@ -1,12 +1,11 @@
 -- What the live functions answer and store, from what the calls behind them answer.
 use Prim.Native.Nat.{ℕ}
-use mathlib.Core.Path.{◌≡◌, refl, sym, ap, ◌∙◌}
+use mathlib.Core.Path.{◌≡◌, refl, ap, ◌∙◌}
 use mathlib.Core.Bool.{Bool, true, false, cond, ◌&&◌}
 use mathlib.Core.List.{List, [], ◌∷◌}
-use native.Mathlib.Omega.{arith}
 use lib.Dec.{eqb}
 use lib.ListN.{length}
-use borrow.Author.Tests.{eq-eqb, ne_eqb}
+use borrow.Author.Tests.{eq-eqb}
 use Rattle.lists.specs.Lists.{tabulate}
 use Rattle.refusals.specs.Refusals.{Answer, answer, refused, or_kept}
 use Rattle.rules.specs.declared.Setting.{Setting}
@@ -32,18 +31,8 @@ stored_not a words new-words totals new-totals k e = rw e (k, (refl, refl))
 
 -- A call that is taken, and its lists.
 module _ (words totals : List ℕ) where
-  pub words_refused : (length words ≡ 80 → ⊥) → begun_answer (answer tt) words totals ≡ refused 15 0
-  words_refused d = rw (ne_eqb (length words) 80 d)
-
-  pub totals_refused : length words ≡ 80 → (length totals ≡ 4 → ⊥) → begun_answer (answer tt) words totals ≡ refused 15 0
-  totals_refused l d = rw (eq-eqb (length words) 80 l, ne_eqb (length totals) 4 d)
-
-  pub lists_fit : length words ≡ 80 → length totals ≡ 4 → begun_answer (answer tt) words totals ≡ answer tt
+  lists_fit : length words ≡ 80 → length totals ≡ 4 → begun_answer (answer tt) words totals ≡ answer tt
   lists_fit l m = rw (eq-eqb (length words) 80 l, eq-eqb (length totals) 4 m)
-
-  pub stored : (a : Answer (Unit {0})) {w t new-words new-totals : List ℕ} → begun_answer a words totals ≡ answer tt → w ≡ new-words → t ≡ new-totals
-      → After 0 w t (begun_answer a words totals) words new-words totals new-totals
-  stored a e f g = rw e (refl, (f, g))
 
   -- a beginning
   pub begins : (n idle : ℕ) (ss oo : List Setting) (a : Answer (Unit {0})) {f : Answer (Unit {0})} {st : Live} {k : ℕ} {w t : List ℕ}
@@ -75,38 +64,24 @@ no_state rules totals s a h f = go (is_kept rules totals) h
     go true h = f h
     go false h = refl
 
--- A report that is not written leaves the buffer.
-unwritten : (fs : List RuleFlags) (ts : List FirstTicks) (t : Totals) (buffer : List ℕ) {number place : ℕ} → report_answer buffer ≡ refused number place → reported fs ts t buffer ≡ buffer
+-- The buffer after a report.
+written : (fs : List RuleFlags) (ts : List FirstTicks) (t : Totals) (buffer : List ℕ) → reported fs ts t buffer ≡ list_after (report_answer buffer) (reported fs ts t buffer) buffer
 unfolding reported
-unwritten fs ts t buffer {number} {place} e = go (eqb (length buffer) 187) e
+written fs ts t buffer = go (eqb (length buffer) 187)
   where
-    go : (b : Bool) → cond {A = Answer (Unit {0})} b (answer tt) (refused 12 0) ≡ refused number place → cond b (report_bytes fs ts t) buffer ≡ buffer
-    go true e = let z : ◌≡◌ {A = ℕ} 0 1 = cc in absurd (omega arith)
-    go false e = refl
+    go : (b : Bool) → cond b (report_bytes fs ts t) buffer ≡ list_after (cond b (answer tt) (refused 12 0)) (cond b (report_bytes fs ts t) buffer) buffer
+    go true = refl
+    go false = refl
 
 -- The report of a state that was loaded.
 module _ (s : Live) (buffer : List ℕ) (a : Answer (Unit {0})) where
-  pub unreported : {k number place : ℕ} → k ≡ refusal_code number place → refused number place ≡ a
-      → (k ≡ code_of (reported_answer a buffer)) × (buffer ≡ list_after (reported_answer a buffer) (state_report s buffer) buffer)
-  unreported k e = rw (← e) (k, refl)
-
-  pub reports : (fs : List RuleFlags) {new : List ℕ} → answer tt ≡ a → fs ≡ flags_read s → answer tt ≡ report_answer buffer
-      → new ≡ reported fs (tabulate 16 (λ i. record { possible = 0xFFFFFFFF; held = 0xFFFFFFFF })) s.totals buffer
-      → (0 ≡ code_of (reported_answer a buffer)) × (new ≡ list_after (reported_answer a buffer) (state_report s buffer) buffer)
-  reports fs e f w n =
-      rw (← e, ← w) (refl, n ∙ ap (λ (x : List RuleFlags). reported x (tabulate 16 (λ i. record { possible = 0xFFFFFFFF; held = 0xFFFFFFFF })) s.totals buffer) f)
-
-  pub short_buffer : (fs : List RuleFlags) {k number place : ℕ} {new : List ℕ} → k ≡ refusal_code number place → answer tt ≡ a → refused number place ≡ report_answer buffer
-      → new ≡ reported fs (tabulate 16 (λ i. record { possible = 0xFFFFFFFF; held = 0xFFFFFFFF })) s.totals buffer
-      → (k ≡ code_of (reported_answer a buffer)) × (new ≡ list_after (reported_answer a buffer) (state_report s buffer) buffer)
-  short_buffer fs k e w n =
-      let u = unwritten fs (tabulate 16 (λ i. record { possible = 0xFFFFFFFF; held = 0xFFFFFFFF })) s.totals buffer (sym w) in
-      rw (← e, ← w) (k, n ∙ u)
+  pub reports : {fs : List RuleFlags} {new : List ℕ} → answer tt ≡ a → fs ≡ flags_read s
+      → new ≡ reported fs (tabulate 16 (λ i. record { possible = 0xFFFFFFFF; held = 0xFFFFFFFF })) s.totals buffer → new ≡ list_after (reported_answer a buffer) (state_report s buffer) buffer
+  reports e f n =
+      let firsts : List FirstTicks = tabulate 16 (λ i. record { possible = 0xFFFFFFFF; held = 0xFFFFFFFF }) in
+      rw (← e) (n ∙ ap (λ (x : List RuleFlags). reported x firsts s.totals buffer) f ∙ written (flags_read s) firsts s.totals buffer)
 
 -- The report of a state in lists.
-pub no_report : (s : Live) → good s ≡ false → of_good {A = Unit {0}} s tt ≡ refused 16 0
-no_report s g = rw g
-
 pub report_kept : (rules totals : List ℕ) (s : Live) (buffer : List ℕ) {st : Live} {k : ℕ} {new : List ℕ} → is_kept rules totals ≡ true → st ≡ s
     → (k ≡ code_of (reported_answer (of_good st tt) buffer)) × (new ≡ list_after (reported_answer (of_good st tt) buffer) (state_report st buffer) buffer)
     → (k ≡ code_of (reported_answer (of_kept rules totals (of_good s tt)) buffer)) × (new ≡ list_after (reported_answer (of_kept rules totals (of_good s tt)) buffer) (state_report s buffer) buffer)

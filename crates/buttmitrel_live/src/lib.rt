@@ -13,7 +13,6 @@ mod keeping;
 
 use buttmitrel::code;
 use keeping::{load, report_state, store};
-use live::Fed;
 use refusals::Refusal;
 
 // Begins a live feed: writes the states and the totals of the beginning.
@@ -28,8 +27,7 @@ pub fn buttmitrel_live_begin(
     ensures words { words.new ≡ list_after (begun_answer (begin_answer cells idle rules.now) words.old totals.old) fresh words.old }
     ensures totals { totals.new ≡ list_after (begun_answer (begin_answer cells idle rules.now) words.old totals.old) (0 ∷ 0 ∷ 0 ∷ 0 ∷ []) totals.old }
 {
-    let step = live::begin(cells, idle, rules);
-    store(step, words, totals)
+    store(live::begin(cells, idle, rules), words, totals)
 }
 
 // Takes the sample of the expected tick.
@@ -49,16 +47,11 @@ pub fn buttmitrel_live_sample(
     ensures words { words.new ≡ sample_words (kept cells idle rules.now words.old totals.old) tick (sample_of current board volts.now temps.now) }
     ensures totals { totals.new ≡ sample_totals (kept cells idle rules.now words.old totals.old) tick (sample_of current board volts.now temps.now) }
 {
-    let kept = load(cells, idle, rules, words, totals);
-    let answer = kept.answer;
-    let state = kept.state;
-    match answer {
-        Fed::Refused(why) => code(Refusal::State),
-        Fed::Taken => {
-            let step = live::sample(state, tick, current, board, volts, temps);
-            store(step, words, totals)
-        }
-    }
+    let Some(state) = load(cells, idle, rules, words, totals) else {
+        return code(Refusal::State);
+    };
+    let step = live::sample(state, tick, current, board, volts, temps);
+    store(step, words, totals)
 }
 
 // Takes a hole from the expected tick up to its last tick.
@@ -74,16 +67,10 @@ pub fn buttmitrel_live_hole(
     ensures words { words.new ≡ hole_words (kept cells idle rules.now words.old totals.old) last }
     ensures totals { totals.new ≡ hole_totals (kept cells idle rules.now words.old totals.old) last }
 {
-    let kept = load(cells, idle, rules, words, totals);
-    let answer = kept.answer;
-    let state = kept.state;
-    match answer {
-        Fed::Refused(why) => code(Refusal::State),
-        Fed::Taken => {
-            let step = live::hole(state, last);
-            store(step, words, totals)
-        }
-    }
+    let Some(state) = load(cells, idle, rules, words, totals) else {
+        return code(Refusal::State);
+    };
+    store(live::hole(state, last), words, totals)
 }
 
 // Writes the report of a state into 187 bytes, with no first ticks.
@@ -98,11 +85,8 @@ pub fn buttmitrel_live_report(
     ensures answer { result ≡ code_of (report_call (kept cells idle rules.now words.now totals.now) report.old) }
     ensures report { report.new ≡ report_after (kept cells idle rules.now words.now totals.now) report.old }
 {
-    let kept = load(cells, idle, rules, words, totals);
-    let answer = kept.answer;
-    let state = kept.state;
-    match answer {
-        Fed::Refused(why) => code(Refusal::State),
-        Fed::Taken => report_state(state, report),
-    }
+    let Some(state) = load(cells, idle, rules, words, totals) else {
+        return code(Refusal::State);
+    };
+    report_state(state, report)
 }

@@ -1,24 +1,24 @@
 -- A record kept as six numbers, before and after a call.
 use Prim.Native.Nat.{ℕ}
-use mathlib.Core.Path.{◌≡◌, refl, sym, ap, ◌∙◌}
+use mathlib.Core.Path.{◌≡◌, refl, sym, ap, ap₂, ◌∙◌}
 use mathlib.Core.Bool.{cond}
-use mathlib.Core.List.{List, [], ◌∷◌, ◌++◌, append-nil}
+use mathlib.Core.List.{List, [], ◌∷◌}
 use native.Mathlib.Omega.{arith}
 use lib.Dec.{eqb}
-use lib.ListN.{length, set, drop_of_length-le}
-use lib.Seq.{sets, sets-eq}
+use lib.IntN.{ℤ}
+use lib.ListN.{length, set}
 use borrow.Author.Tests.{eq-eqb, ne_eqb}
+use mir.Syntax.{w16}
+use mir.Val.{to_z, of_z, SFits}
 use Rattle.refusals.specs.Refusals.{Answer, answer, refused, and_then, or_kept}
 use Rattle.recording.specs.declared.Recorder.{Recorder}
-use Rattle.recording.specs.Recorder.{start_answer}
+use Rattle.rules.specs.Samples.{sample_of}
+use Rattle.recording.specs.Recorder.{start_answer, offered}
+use Rattle.recording.proofs.OfferSteps.{same_sample}
 use Rattle.buttmitrel.specs.Code.{code_of, value_code, refusal_code}
 use Rattle.buttmitrel_recorder.specs.Numbers.{numbers_of, recorder_of, start_call, numbers_after_start}
 
-pub six_stored : (six : List ℕ) (r : Recorder) → length six ≡ 6 → sets six 0 (numbers_of r) ≡ numbers_of r
-six_stored six r l =
-    sets-eq (numbers_of r) six 0 (omega arith) ∙ ap (λ rest. numbers_of r ++ rest) (drop_of_length-le six {i = 6} (omega arith)) ∙ append-nil (numbers_of r)
-
--- A call that changes one of them.
+-- A drain changes one of them.
 pub one_stored : (six : List ℕ) (r r' : Recorder) → length six ≡ 6 → r ≡ recorder_of six
     → r' ≡ record { cells = r.cells; number = r.number; next = r.next; holes = r.holes; stored = r'.stored; ever = r.ever } → set six 4 r'.stored ≡ numbers_of r'
 one_stored [] r r' l e f = absurd (omega arith)
@@ -72,3 +72,8 @@ module _ {A : Type 0} (value : A → ℕ) (after : A → Recorder) (list : A →
         let same : k ≡ value x = ap value_code f in
         rw (← e, eq-eqb (length six) 6 l) (same, (m ∙ ap numbers_of g, h))
     call_taken r k (refused p q) b e f g m h = let z : ◌≡◌ {A = ℕ} 0 1 = cc in absurd (omega arith)
+
+-- The offer of a sample whose signed readings are passed on, to the record that was read from the numbers.
+pub same_offer : {r : Recorder} {i j : ℤ} (six store : List ℕ) (tick : ℕ) (volts : List ℕ) (temps : List ℤ) → r ≡ recorder_of six → SFits w16 i → SFits w16 j
+    → offered r store tick (sample_of (to_z w16 (of_z w16 i)) (to_z w16 (of_z w16 j)) volts temps) ≡ offered (recorder_of six) store tick (sample_of i j volts temps)
+same_offer six store tick volts temps e f g = ap₂ (λ r y. offered r store tick y) e (same_sample volts temps f g)

@@ -9,7 +9,7 @@ ghost use Rattle.buttmitrel.specs.Code.{code_of, value_code};
 ghost use Rattle.buttmitrel_recorder.specs.Numbers.{numbers_of, recorder_of, start_call, numbers_after_start, offer_call, numbers_after_offer, drain_call, numbers_after_drain};
 
 use buttmitrel::code;
-use recording::{Drained, Offered, Recorder, Started};
+use recording::Recorder;
 use refusals::Refusal;
 
 fn load(numbers: &[u32]) -> Recorder
@@ -44,8 +44,8 @@ pub fn buttmitrel_recorder_start(cells: u8, number: u32, numbers: &mut [u32]) ->
     ensures numbers { numbers.new ≡ numbers_after_start numbers.old (start_call cells number numbers.old) }
 {
     match recording::start(cells, number) {
-        Started::Refused(why) => code(why),
-        Started::Fresh(r) => {
+        Err(why) => code(why),
+        Ok(r) => {
             if numbers.len() != 6 {
                 return code(Refusal::BufferLength);
             }
@@ -72,18 +72,12 @@ pub fn buttmitrel_recorder_offer(
     if numbers.len() != 6 {
         return code(Refusal::State);
     }
-    let step = recorder::offer_from(load(numbers), store, tick, current, board, volts, temps);
-    let answer = step.answer;
-    let after = step.recorder;
-    match answer {
-        Offered::Refused(why) => code(why),
-        Offered::Stored => {
-            store_numbers(numbers, after);
-            0
-        }
-        Offered::Unseen => {
-            store_numbers(numbers, after);
-            1
+    let mut r = load(numbers);
+    match recorder::offer(&mut r, store, tick, current, board, volts, temps) {
+        Err(why) => code(why),
+        Ok(became) => {
+            store_numbers(numbers, r);
+            became.number() as u64
         }
     }
 }
@@ -97,13 +91,11 @@ pub fn buttmitrel_recorder_drain(numbers: &mut [u32], store: &[u8], buffer: &mut
     if numbers.len() != 6 {
         return code(Refusal::State);
     }
-    let step = recorder::drain_from(load(numbers), store, buffer);
-    let answer = step.answer;
-    let after = step.recorder;
-    match answer {
-        Drained::Refused(why) => code(why),
-        Drained::Samples(count) => {
-            numbers[4] = after.stored;
+    let mut r = load(numbers);
+    match recorder::drain(&mut r, store, buffer) {
+        Err(why) => code(why),
+        Ok(count) => {
+            numbers[4] = r.stored;
             count as u64
         }
     }

@@ -1,4 +1,3 @@
-pub mod PastEnd
 pub mod Signed
 pub mod Spaced
 pub mod ByteLists

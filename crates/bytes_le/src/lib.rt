@@ -1,119 +1,90 @@
 // Little-endian numbers in a slice of bytes. Past the end a byte reads 0.
 #![tactic(auto)]
 
-ghost use Rattle.std.specs.Prelude.{◌≡◌, ◌+◌, ◌*◌, ◌<◌, get_or, length};
+ghost use Rattle.std.specs.Prelude.{◌≡◌, ℕ, ◌+◌, ◌*◌, ◌<◌, slice_index, length};
 ghost use Rattle.std.specs.Int.{w16, w32};
 ghost use Rattle.std.proofs.Common.{to_z, of_z};
 ghost use Rattle.bytes_le.specs.Numbers.{u16_at, u32_at, i16_at, i32_at};
 ghost use Rattle.bytes_le.specs.Writing.{bytes_of, put_at};
 
-fn byte_at(s: &[u8], at: usize) -> u8
-    ensures { result ≡ get_or s.now at 0 }
+// The bytes from a place on. Past the end a byte is 0.
+fn bytes_at<const N: usize>(s: &[u8], at: usize) -> [u8; N]
+    ensures { (i : ℕ) → i < N → slice_index result i ≡ slice_index s.now (at + i) }
 {
-    if at < s.len() { s[at] } else { 0 }
+    let Some(rest) = s.get(at..) else {
+        return [0; N];
+    };
+    if let Some(bytes) = rest.first_chunk() {
+        return *bytes;
+    }
+    // Byte by byte: a `copy_from_slice` is a call here, which slows the loops that read samples.
+    let mut bytes = [0; N];
+    for (i, byte) in bytes.iter_mut().enumerate() {
+        *byte = rest.get(i).copied().unwrap_or(0);
+    }
+    bytes
 }
 
 pub fn join16(low: u8, high: u8) -> u16
     ensures { result ≡ low + high * 256 }
 {
-    (low as u16) + (high as u16) * 256
-}
-
-fn join32(low: u16, high: u16) -> u32
-    ensures { result ≡ low + high * 65536 }
-{
-    (low as u32) + (high as u32) * 65536
+    u16::from_le_bytes([low, high])
 }
 
 pub fn signed16(v: u16) -> i16
     ensures { result ≡ to_z w16 v }
 {
-    if v < 32768 {
-        v as i16
-    } else {
-        !((65535 - v) as i16)
-    }
+    v.cast_signed()
 }
 
 // The bits of a signed number.
 pub fn bits16(v: i16) -> u16
     ensures { result ≡ of_z w16 v }
 {
-    if v < 0 { 65535 - (!v as u16) } else { v as u16 }
-}
-
-fn signed32(v: u32) -> i32
-    ensures { result ≡ to_z w32 v }
-{
-    if v < 2147483648 {
-        v as i32
-    } else {
-        !((4294967295 - v) as i32)
-    }
+    v.cast_unsigned()
 }
 
 pub fn u16_at(s: &[u8], at: usize) -> u16
     ensures { result ≡ u16_at s.now at }
 {
-    if s.len() <= at {
-        return 0;
-    }
-    join16(s[at], byte_at(s, at + 1))
-}
-
-// Four bytes that lie within the slice.
-fn u32_within(s: &[u8], at: usize) -> u32
-    requires { at + 3 < length s.now }
-    ensures { result ≡ u32_at s.now at }
-{
-    join32(join16(s[at], s[at + 1]), join16(s[at + 2], s[at + 3]))
+    u16::from_le_bytes(bytes_at(s, at))
 }
 
 pub fn u32_at(s: &[u8], at: usize) -> u32
     ensures { result ≡ u32_at s.now at }
 {
-    if s.len() <= at {
-        return 0;
-    }
-    if 3 < s.len() - at {
-        return u32_within(s, at);
-    }
-    if s.len() - at <= 2 {
-        return join32(u16_at(s, at), 0);
-    }
-    join32(u16_at(s, at), u16_at(s, at + 2))
+    u32::from_le_bytes(bytes_at(s, at))
 }
 
 pub fn i16_at(s: &[u8], at: usize) -> i16
     ensures { result ≡ i16_at s.now at }
 {
-    signed16(u16_at(s, at))
+    i16::from_le_bytes(bytes_at(s, at))
 }
 
 pub fn i32_at(s: &[u8], at: usize) -> i32
     ensures { result ≡ i32_at s.now at }
 {
-    signed32(u32_at(s, at))
+    i32::from_le_bytes(bytes_at(s, at))
+}
+
+// Puts the lowest bytes of a number over a buffer, the lowest first.
+fn fill(buffer: &mut [u8], v: u64)
+    ensures { buffer.new ≡ bytes_of (length buffer.old) v }
+{
+    let mut rest = v;
+    for byte in buffer.iter_mut() {
+        *byte = (rest % 256) as u8;
+        rest /= 256;
+    }
 }
 
 // Puts the `count` lowest bytes of a number, the lowest first. Where they do not fit nothing is written.
 pub fn put(buffer: &mut [u8], at: usize, count: usize, v: u64)
     ensures { buffer.new ≡ put_at buffer.old at (bytes_of count v) }
 {
-    if buffer.len() < at {
-        return;
-    }
-    if buffer.len() - at < count {
-        return;
-    }
-    let mut i = at;
-    let mut left = count;
-    let mut rest = v;
-    while left > 0 {
-        buffer[i] = (rest % 256) as u8;
-        rest = rest / 256;
-        i += 1;
-        left -= 1;
+    if at <= buffer.len() && count <= buffer.len() - at {
+        fill(&mut buffer[at..at + count], v);
     }
 }
 
@@ -121,15 +92,7 @@ pub fn put(buffer: &mut [u8], at: usize, count: usize, v: u64)
 pub fn put_bytes(buffer: &mut [u8], at: usize, bytes: &[u8])
     ensures { buffer.new ≡ put_at buffer.old at bytes.now }
 {
-    if buffer.len() < at {
-        return;
-    }
-    if buffer.len() - at < bytes.len() {
-        return;
-    }
-    let mut i: usize = 0;
-    while i < bytes.len() {
-        buffer[at + i] = bytes[i];
-        i += 1;
+    if at <= buffer.len() && bytes.len() <= buffer.len() - at {
+        buffer[at..at + bytes.len()].copy_from_slice(bytes);
     }
 }

@@ -20,12 +20,11 @@ from drives fs i = output_of drives (drop i rows) (drop i (statuses_of fs))
 
 -- What the loop has found at rule i.
 pub record Driven (drives : Row → Bool) (fs : List RuleFlags) (found : Flag) (i : ℕ) : Type 0 where
-  pub within : i ≤ 16
   pub is : found ≡ from drives fs i
 
 pub start : (drives : Row → Bool) (fs : List RuleFlags) → Driven drives fs Clear 16
 unfolding output_of
-start drives fs = record { within = omega arith; is = refl }
+start drives fs = record { is = refl }
 
 one_more : (drives : Row → Bool) (fs : List RuleFlags) (f : RuleFlags) (k : ℕ) → length fs ≡ 16 → k < 16 → from drives fs k ≡ cond (drives (row_at k)) (with_next (get_or fs k f).status (from drives fs (suc k))) (from drives fs (suc k))
 unfolding output_of
@@ -34,16 +33,12 @@ one_more drives fs f k n h =
     let s : k < length (statuses_of fs) = rw length-map (omega arith) in
     rw (← get_or-map (λ x. x.status) fs k f, drop-cons rows k (row_at 16), drop-cons (statuses_of fs) k f.status)
 
-pub next : {drives : Row → Bool} {fs : List RuleFlags} {found result : Flag} {i : ℕ} {row : Row} {driving : Bool} (f : RuleFlags) → Driven drives fs found i → 0 < i → length fs ≡ 16 → row ≡ row_at (i - 1) → driving ≡ drives row → result ≡ cond driving (with_next (get_or fs (i - 1) f).status found) found → Driven drives fs result (i - 1)
-next {i = zero} f d h n r b e = absurd (omega arith)
-next {drives} {fs} {i = suc k} f d h n r b e =
+pub next : {drives : Row → Bool} {fs : List RuleFlags} {found result : Flag} {i : ℕ} {row : Row} {driving : Bool} (f : RuleFlags) → Driven drives fs found i → 0 < i → i ≤ 16 → length fs ≡ 16 → row ≡ row_at (i - 1) → driving ≡ drives row → result ≡ cond driving (with_next (get_or fs (i - 1) f).status found) found → Driven drives fs result (i - 1)
+next {i = zero} f d h w n r b e = absurd (omega arith)
+next {drives} {fs} {i = suc k} f d h w n r b e =
     let p : suc k - 1 ≡ k = omega arith in
-    let more = one_more drives fs f k n d.within in
-    record { within = omega arith; is = e ∙ rw (b, r, p, d.is) (sym more) }
-
-pub whole : {drives : Row → Bool} {fs : List RuleFlags} {found : Flag} {i : ℕ} → Driven drives fs found i → i ≤ 0 → found ≡ output_of drives rows (statuses_of fs)
-whole {i = zero} d h = d.is
-whole {i = suc k} d h = absurd (omega arith)
+    let more = one_more drives fs f k n w in
+    record { is = e ∙ rw (b, r, p, d.is) (sym more) }
 
 pub long : (X Y : Type 0) (g : X → Y) (l : List X) (n : ℕ) → length (map g l) ≡ n → length l ≡ n
 long X Y g l n e = sym (length-map l g) ∙ e

@@ -16,6 +16,7 @@ pub fn read_full<R: Read>(input: &mut R, buffer: &mut [u8]) -> io::Result<usize>
     ensures end { IfOk result (λ n. n < length buffer.new → IsAtEnd (R.remaining input.new)) }
 {
     let mut done = 0;
+    // By hand: `read_exact` fails where the input ends early, and `read_to_end` fills a heap's Vec and not this buffer.
     while done < buffer.len() {
         let n = input.read(&mut buffer[done..])?;
         if n == 0 {

@@ -4,14 +4,12 @@ use mathlib.Core.Path.{◌≡◌, refl, sym, ap, ◌∙◌}
 use mathlib.Core.List.{List, map}
 use native.Mathlib.Omega.{arith}
 use lib.ListN.{length, get_or}
-use Rattle.refusals.specs.Refusals.{Answer, answer, refused}
-use Rattle.refusals.proofs.Answers.{clash}
-use Rattle.rules.specs.declared.Setting.{Setting}
-use Rattle.rules.specs.declared.Settings.{Settings}
+use Rattle.refusals.specs.Refusals.{answer}
 use Rattle.trace.specs.declared.Layout.{Layout}
 use Rattle.trace.specs.Records.{replies_in}
 use Rattle.trace.specs.Sections.{walk_answer, holes_part, replies_part, samples_part}
-use Rattle.trace.specs.Acceptance.{Parsed, accept_answer, ticks_of, layout_of, settings_in}
+use Rattle.trace.specs.Acceptance.{Parsed, accept_answer, parsed_of}
+use Rattle.trace.specs.declared.Acceptance.{Acceptance}
 use Rattle.trace.proofs.Layouts.{PartsAre, parts_are, length_part, replies_start, few_replies}
 use Rattle.report.proofs.WholeReport.{report_whole, totals_same}
 use Rattle.report.specs.Layout.{report_bytes, reported}
@@ -26,20 +24,19 @@ use Rattle.judge.specs.declared.advance.Frame.{Frame}
 use Rattle.judge.specs.inner.Walk.{config_in, Ready}
 use Rattle.judge.specs.inner.Ending.{summed, Parts}
 
--- What `accept` answers is an acceptance or a refusal.
-pub accepted_whole : (a : Answer Parsed) {t : ℕ} {l : Layout} {ss : List Setting} → answer t ≡ ticks_of a → l ≡ layout_of a → ss ≡ settings_in a → a ≡ answer (record { layout = l; settings = ss; ticks = t })
-accepted_whole (answer w) {t} {l} {ss} e f g =
-    let d : t ≡ w.ticks = cc in
-    rw (d, f, g)
-accepted_whole (refused n p) e f g = absurd (clash (sym e))
-
 -- The layout of the sections is that of the trace.
 pub same_count : (s : List ℕ) {l : Layout} {w : Parsed} → walk_answer s ≡ answer l → accept_answer s ≡ answer w → l.reply_count ≡ w.layout.reply_count
 same_count s {l} {w} a h = let e : answer l ≡ answer w.layout = sym a ∙ (checks s w h).walked in cc
 
-module _ (s : List ℕ) (l : Layout) (ss : Settings) (t : ℕ) (h : accept_answer s ≡ answer (record { layout = l; settings = ss.of; ticks = t })) where
+module _ (s : List ℕ) (a : Acceptance) (h : accept_answer s ≡ answer (parsed_of a)) where
   abbrev w : Parsed
-  w = record { layout = l; settings = ss.of; ticks = t }
+  w = parsed_of a
+
+  abbrev l : Layout
+  l = a.layout
+
+  abbrev t : ℕ
+  t = a.ticks
 
   pub parts : PartsAre s l
   parts = parts_are s l (checks s w h).walked
@@ -51,7 +48,7 @@ module _ (s : List ℕ) (l : Layout) (ss : Settings) (t : ℕ) (h : accept_answe
       omega (arith, g.counted, g.replies)
 
   abbrev frame : Frame
-  frame = record { cells = l.cells; idle = l.idle; width = l.sample_width; ticks = t; settings = ss }
+  frame = record { cells = l.cells; idle = l.idle; width = l.sample_width; ticks = t; settings = a.settings }
 
   ready : Ready frame
   ready = record { sound = (accepted s w h).rules; wide = parts.wide }

@@ -18,22 +18,23 @@ use Rattle.walk.specs.Walk.{start_of}
 use Rattle.walk.specs.inner.Places.{shows}
 use Rattle.judge.specs.declared.advance.Frame.{Frame}
 use Rattle.judge.specs.declared.advance.Stop.{Stop}
+use Rattle.judge.specs.declared.advance.Tracks.{Tracks}
 use Rattle.judge.specs.inner.Walk.{config_in, Planned, Known, At}
 use Rattle.judge.specs.inner.Ending.{joined, Parts}
 use Rattle.judge.proofs.Knowing.{known_start, flags_known}
 use Rattle.judge.proofs.Joining.{firsts_joined}
 
-module _ {f : Frame} {holes replies samples : List ℕ} {verdicts : ℕ} {tests : List ℤ} {lanes : List ℕ} (g : Parts f holes replies samples verdicts) (planned : Planned f tests lanes) where
-  pub stop_start : {x : Stop} {states firsts : List ℕ} → states ≡ paired (λ i. 0) (λ i. 0) → firsts ≡ paired (λ i. none) (λ i. none)
-      → x ≡ record { cursor = start_of; shown = Unseen } → At f holes samples x states firsts
-  stop_start {states = states} {firsts} s t e =
-      subst (λ (y : Stop). At f holes samples y states firsts) (sym e)
-      (record { ready = g.ready; stands = g.stands; shown = λ t i. absurd (omega arith); known = known_start samples g.ready s t })
+module _ {f : Frame} {holes replies samples : List ℕ} {verdicts : ℕ} (g : Parts f holes replies samples verdicts) where
+  pub stop_start : {x : Stop} {tracks : Tracks} → tracks.states ≡ paired (λ i. 0) (λ i. 0) → tracks.firsts ≡ paired (λ i. none) (λ i. none)
+      → x ≡ record { cursor = start_of; shown = Unseen } → At f holes samples x tracks
+  stop_start {tracks = tracks} s t e =
+      subst (λ (y : Stop). At f holes samples y tracks) (sym e)
+      (record { stands = g.stands; shown = λ t i. absurd (omega arith); known = known_start samples g.ready s t })
 
-  pub report_end : {states firsts report' : List ℕ} {t t' : Totals} (report : List ℕ) → Known (config_in f) samples f.ticks states firsts → t ≡ t'
-      → report' ≡ reported (flags_of_states lanes states) (joined firsts) t report
+  pub report_end : {tests : List ℤ} {lanes : List ℕ} {tracks : Tracks} {report' : List ℕ} {t t' : Totals} → Planned f tests lanes → (report : List ℕ) → Known (config_in f) samples f.ticks tracks → t ≡ t'
+      → report' ≡ reported (flags_of_states lanes tracks.states) (joined tracks.firsts) t report
       → report' ≡ reported (flags_at (config_in f) (shows f.cells samples) f.ticks) (firsts_at (config_in f) (shows f.cells samples) f.ticks) t' report
-  report_end {t = t} {t'} report k e r =
+  report_end {t = t} {t'} planned report k e r =
       let p = config_in f in
       let trace = shows f.cells samples in
       r

@@ -10,10 +10,12 @@ use lib.Dec.{ltb, leb}
 use lib.ListN.{length, take, drop, set, length-set, length-drop}
 use lib.Seq.{take-suc-set, length-take-le, take_all, append_snoc}
 use borrow.Author.Tests.{ltb-false, leb-false}
+use Rattle.std.proofs.lemmas.List.{take-append-drop, drop-take, drop-drop}
 use Rattle.lists.proofs.Bools.{both_false}
 use Rattle.refusals.specs.Refusals.{answer}
 use Rattle.bytes_le.specs.Numbers.{u32_at, spaced}
 use Rattle.bytes_le.proofs.Spaced.{spaced_next}
+use Rattle.bytes_le.proofs.ByteLists.{u32_behind, u32_first}
 use Rattle.trace.specs.Records.{Reply, reply_at, replies_from, replies_in}
 use Rattle.trace.specs.Coverage.{replies_answer}
 use Rattle.refusals.proofs.Answers.{unless}
@@ -24,14 +26,15 @@ use Rattle.verdicts.specs.declared.Alarms.{Alarms}
 use Rattle.verdicts.specs.Verdicts.{verdict_of}
 use Rattle.demands.specs.Verdicts.{alarms_at, verdict_on}
 use Rattle.judge.specs.declared.advance.Stop.{Stop}
+use Rattle.judge.specs.declared.advance.Tracks.{Tracks}
 use Rattle.walk.specs.inner.Places.{shows}
 use Rattle.judge.specs.declared.advance.Frame.{Frame}
-use Rattle.judge.specs.inner.Walk.{config_in, Planned, Known, At, Arrived, alarms_of}
+use Rattle.judge.specs.inner.Walk.{config_in, Ready, Planned, Known, At, Arrived, alarms_of}
 use Rattle.judge.proofs.Points.{alarms_known}
 
 -- The replies below number j are judged, and the walk has not passed the next one; `low` is the tick of the last one.
-pub record Judging (f : Frame) (holes samples replies : List ℕ) (states firsts verdicts : List ℕ) (x : Stop) (j : ℕ) : Type 0 where
-  pub there : At f holes samples x states firsts
+pub record Judged (f : Frame) (holes samples replies : List ℕ) (tracks : Tracks) (verdicts : List ℕ) (x : Stop) (j : ℕ) : Type 0 where
+  pub there : At f holes samples x tracks
   pub count : length verdicts ≡ length replies / 10
   pub within : j ≤ length verdicts
   pub low : ℕ
@@ -39,9 +42,9 @@ pub record Judging (f : Frame) (holes samples replies : List ℕ) (states firsts
   pub left : replies_answer f.ticks (replies_from replies (length replies / 10 - j) (j * 10)) j low ≡ answer tt
   pub judged : map (verdict_on (config_in f) (shows f.cells samples)) (replies_in replies) ≡ take j verdicts ++ map (verdict_on (config_in f) (shows f.cells samples)) (replies_from replies (length replies / 10 - j) (j * 10))
 
-pub judging_start : {f : Frame} {holes samples replies : List ℕ} {states firsts verdicts : List ℕ} {x : Stop} → At f holes samples x states firsts
+pub judging_start : {f : Frame} {holes samples replies : List ℕ} {tracks : Tracks} {verdicts : List ℕ} {x : Stop} → At f holes samples x tracks
     → x.cursor.tick ≤ 1 → replies_answer f.ticks (replies_in replies) 0 0 ≡ answer tt → length verdicts ≡ length replies / 10
-    → Judging f holes samples replies states firsts verdicts x 0
+    → Judged f holes samples replies tracks verdicts x 0
 judging_start {f} {samples = samples} {replies} g l a n =
     let e : length replies / 10 ≡ length replies / 10 - 0 = omega arith in
     record {
@@ -55,13 +58,24 @@ judging_start {f} {samples = samples} {replies} g l a n =
     }
 
 -- The verdict from where the walk stands after the reply's tick.
-verdict_here : {f : Frame} {tests : List ℤ} {lanes holes samples states firsts : List ℕ} {x : Stop} {tick : ℕ} (bytes : List ℕ) → Planned f tests lanes → At f holes samples x states firsts
-    → x.cursor.tick ≡ suc tick → verdict_of x.shown (alarms_of (flags_of_states lanes states)) bytes ≡ verdict_on (config_in f) (shows f.cells samples) (record { tick = tick; bytes = bytes })
-verdict_here {f} {samples = samples} bytes planned g e =
+verdict_here : {f : Frame} {tests : List ℤ} {lanes holes samples : List ℕ} {tracks : Tracks} {x : Stop} {tick : ℕ} (bytes : List ℕ) → Ready f → Planned f tests lanes → At f holes samples x tracks
+    → x.cursor.tick ≡ suc tick → verdict_of x.shown (alarms_of (flags_of_states lanes tracks.states)) bytes ≡ verdict_on (config_in f) (shows f.cells samples) (record { tick = tick; bytes = bytes })
+verdict_here {f} {samples = samples} bytes ready planned g e =
     ap₂ (λ (t : Tick) (a : Alarms). verdict_of t a bytes) (g.shown _ e)
-    (alarms_known planned g refl ∙ ap (alarms_at (config_in f) (shows f.cells samples)) e)
+    (alarms_known ready planned g refl ∙ ap (alarms_at (config_in f) (shows f.cells samples)) e)
 
-module _ {f : Frame} {holes samples replies : List ℕ} {states firsts verdicts : List ℕ} {x : Stop} {j : ℕ} (g : Judging f holes samples replies states firsts verdicts x j) where
+-- The tick of a reply, from its own bytes.
+reply_tick : (s : List ℕ) (at : ℕ) → at + 10 ≤ length s → u32_at (take 10 (drop at s)) 0 ≡ u32_at s at
+reply_tick s at h =
+    let l : 10 ≤ length (drop at s) = omega (arith, length-drop at s) in
+    let z : at ≡ at + 0 = omega arith in
+    sym
+    (ap (u32_at s) z
+    ∙ u32_behind s (drop at s) at 0 refl
+    ∙ ap (λ (x : List ℕ). u32_at x 0) (sym (take-append-drop 10 (drop at s)))
+    ∙ u32_first (take 10 (drop at s)) (drop 10 (drop at s)) 0 (omega (arith, length-take-le 10 (drop at s) l)))
+
+module _ {f : Frame} {holes samples replies : List ℕ} {tracks : Tracks} {verdicts : List ℕ} {x : Stop} {j : ℕ} (g : Judged f holes samples replies tracks verdicts x j) where
   abbrev n : ℕ
   n = length replies / 10
 
@@ -95,22 +109,33 @@ module _ {f : Frame} {holes samples replies : List ℕ} {states firsts verdicts 
   pub in_replies : j < length verdicts → j * 10 + 10 ≤ length replies
   in_replies h = omega (arith, g.count)
 
-  pub six_bytes : j < length verdicts → length (take (j * 10 + 10 - (j * 10 + 4)) (drop (j * 10 + 4) replies)) ≡ 6
-  six_bytes h =
-      let e : j * 10 + 10 - (j * 10 + 4) ≡ 6 = omega arith in
-      let l = in_replies h in
-      let k : 6 ≤ length (drop (j * 10 + 4) replies) = omega (arith, length-drop (j * 10 + 4) replies) in
-      ap (λ (i : ℕ). length (take i (drop (j * 10 + 4) replies))) e ∙ length-take-le 6 (drop (j * 10 + 4) replies) k
+  -- the bytes of reply j
+  abbrev here : List ℕ
+  here = take (j * 10 + 10 - j * 10) (drop (j * 10) replies)
 
-  pub judging_next : {tests : List ℤ} {lanes : List ℕ} → Planned f tests lanes → j < length verdicts → (to v : ℕ) {states' firsts' : List ℕ} {x' : Stop} → to ≡ u32_at replies (j * 10) + 1
-      → Arrived f holes samples x' to states' firsts'
-      → v ≡ verdict_of x'.shown (alarms_of (flags_of_states lanes states')) (take (j * 10 + 10 - (j * 10 + 4)) (drop (j * 10 + 4) replies))
-      → Judging f holes samples replies states' firsts' (set verdicts j v) x' (j + 1)
-  judging_next {lanes = lanes} planned h to v {states'} {x' = x'} t r e =
-      let six : j * 10 + 10 - (j * 10 + 4) ≡ 6 = omega arith in
-      let tick : x'.cursor.tick ≡ suc (u32_at replies (j * 10)) = r.at ∙ t ∙ add-one _ in
+  pub tick_here : j < length verdicts → u32_at here 0 ≡ u32_at replies (j * 10)
+  tick_here h = let l = in_replies h in let ten : j * 10 + 10 - j * 10 ≡ 10 = omega arith in rw ten (reply_tick replies (j * 10) l)
+
+  -- and those after its tick
+  abbrev after_tick : List ℕ
+  after_tick = take (length here - 4) (drop 4 here)
+
+  bytes_here : after_tick ≡ reply.bytes
+  bytes_here =
+      let ten : j * 10 + 10 - j * 10 ≡ 4 + 6 = omega arith in
+      take_all _ _ (omega (arith, length-drop 4 here))
+      ∙ ap (λ (k : ℕ). drop 4 (take k (drop (j * 10) replies))) ten
+      ∙ drop-take 4 6 (drop (j * 10) replies)
+      ∙ ap (take 6) (drop-drop 4 (j * 10) replies)
+
+  pub judging_next : {tests : List ℤ} {lanes : List ℕ} → Ready f → Planned f tests lanes → j < length verdicts → (to v : ℕ) {tracks' : Tracks} {x' : Stop} → to ≡ u32_at here 0 + 1
+      → Arrived f holes samples x' to tracks'
+      → v ≡ verdict_of x'.shown (alarms_of (flags_of_states lanes tracks'.states)) after_tick
+      → Judged f holes samples replies tracks' (set verdicts j v) x' (j + 1)
+  judging_next {lanes = lanes} ready planned h to v {tracks'} {x' = x'} t r e =
+      let tick : x'.cursor.tick ≡ suc (u32_at replies (j * 10)) = r.at ∙ t ∙ ap (λ (k : ℕ). k + 1) (tick_here h) ∙ add-one _ in
       let is : v ≡ verdict reply =
-      e ∙ ap (λ (i : ℕ). verdict_of x'.shown (alarms_of (flags_of_states lanes states')) (take i (drop (j * 10 + 4) replies))) six ∙ verdict_here _ planned r.there tick in
+      e ∙ ap (verdict_of x'.shown (alarms_of (flags_of_states lanes tracks'.states))) bytes_here ∙ verdict_here _ ready planned r.there tick in
       let split = spaced_next (reply_at replies) 10 (length replies / 10 - j) (j * 10) (some h) in
       let d : length replies / 10 - j - 1 ≡ length replies / 10 - (j + 1) = omega arith in
       let a : j * 10 + 10 ≡ (j + 1) * 10 = omega arith in
@@ -145,5 +170,5 @@ module _ {f : Frame} {holes samples replies : List ℕ} {states firsts verdicts 
       ∙ append-nil (take j verdicts)
       ∙ take_all j verdicts h)
 
-pub known_there : {f : Frame} {holes samples : List ℕ} {x : Stop} {to : ℕ} {states firsts : List ℕ} → Arrived f holes samples x to states firsts → Known (config_in f) samples to states firsts
-known_there {f} {samples = samples} {states = states} {firsts} r = subst (λ (k : ℕ). Known (config_in f) samples k states firsts) r.at r.there.known
+pub known_there : {f : Frame} {holes samples : List ℕ} {x : Stop} {to : ℕ} {tracks : Tracks} → Arrived f holes samples x to tracks → Known (config_in f) samples to tracks
+known_there {f} {samples = samples} {tracks = tracks} r = subst (λ (k : ℕ). Known (config_in f) samples k tracks) r.at r.there.known

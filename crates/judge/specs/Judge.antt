@@ -1,18 +1,11 @@
 -- Paper 01, 'Refusal numbers': the judge's order, 12; 1 to 4; the sections with 5 and 6; 11; 13; 7; 8; 9; 10, and what the call leaves in its buffers.
 use Rattle.std.specs.Prelude.{ℕ, cond, List, eqb, length}
-use Rattle.refusals.specs.Refusals.{Answer, answer, refused, refusal, and_then, or_kept}
+use Rattle.refusals.specs.Refusals.{Answer, answer, refused, and_then, or_kept}
 use Rattle.trace.specs.Sections.{walk_answer}
 use Rattle.trace.specs.Acceptance.{Parsed, accept_answer}
 use Rattle.ticks.specs.Traces.{trace_of}
 use Rattle.demands.specs.Report.{trace_report}
 use Rattle.demands.specs.Verdicts.{trace_verdicts}
-use Rattle.judge.specs.declared.Judged.{Judged}
-use Rattle.judge.specs.declared.Judged.TheVariants.{Accepted, Refused}
-
--- What `judge` answers, in the paper's numbers.
-abbrev pub answer_of_judged : Judged → Answer (Unit {0})
-answer_of_judged Accepted = answer tt
-answer_of_judged (Refused why) = refusal why
 
 -- The buffers: 12 unless the report has 187 bytes; the walk over the sections; 13 unless there is a verdict for each reply.
 unfoldable pub buffers_answer : List ℕ → ℕ → ℕ → Answer (Unit {0})

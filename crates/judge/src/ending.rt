@@ -1,14 +1,14 @@
 // The report, from what is known at the end.
-ghost use Rattle.std.specs.Prelude.{◌≡◌, ◌≤◌, length};
+ghost use Rattle.std.specs.Prelude.{◌≡◌, ◌≤◌};
 ghost use Rattle.bounds.specs.Steps.{flags_of_states};
 ghost use Rattle.report.specs.Layout.{reported};
 ghost use Rattle.totals.specs.Totals.{unseen_sum};
 ghost use Rattle.judge.specs.inner.Ending.{joined, summed};
 
+use crate::advance::Tracks;
 use report::{AllFirstTicks, FirstTicks, Totals};
 
-fn join_firsts(firsts: &[u32]) -> AllFirstTicks
-    requires { length firsts.now ≡ 32 }
+fn join_firsts(firsts: &[u32; 32]) -> AllFirstTicks
     ensures { result.of ≡ joined firsts.now }
 {
     let none = FirstTicks {
@@ -16,13 +16,11 @@ fn join_firsts(firsts: &[u32]) -> AllFirstTicks
         held: 0,
     };
     let mut all = AllFirstTicks { of: [none; 16] };
-    let mut i: usize = 0;
-    while i < 16 {
+    for i in 0..16 {
         all.of[i] = FirstTicks {
             possible: firsts[16 + i],
             held: firsts[i],
         };
-        i += 1;
     }
     all
 }
@@ -41,17 +39,10 @@ pub(crate) fn totals_of(holes: &[u8], samples: &[u8], cells: u8, ticks: u32) -> 
     }
 }
 
-pub(crate) fn write_end(
-    lanes: &[u8; 32],
-    states: &[u8],
-    firsts: &[u32],
-    totals: Totals,
-    report: &mut [u8],
-)
-    requires { length firsts.now ≡ 32 }
-    ensures { report.new ≡ reported (flags_of_states lanes.now states.now) (joined firsts.now) totals report.old }
+pub(crate) fn write_end(lanes: &[u8; 32], tracks: &Tracks, totals: Totals, report: &mut [u8])
+    ensures { report.new ≡ reported (flags_of_states lanes.now tracks.now.states) (joined tracks.now.firsts) totals report.old }
 {
-    let flags = bounds::flags_in(lanes, states);
-    let ticks = join_firsts(firsts);
-    report::write_report(report, flags, ticks, totals);
+    let flags = bounds::flags_in(lanes, &tracks.states);
+    let ticks = join_firsts(&tracks.firsts);
+    let _ = report::write_report(report, flags, ticks, totals);
 }

@@ -2,7 +2,7 @@
 ghost use Rattle.std.specs.Prelude.{◌≡◌, map, length};
 ghost use Rattle.refusals.specs.Refusals.{answer};
 ghost use Rattle.trace.specs.Records.{replies_in};
-ghost use Rattle.trace.specs.Acceptance.{accept_answer};
+ghost use Rattle.trace.specs.Acceptance.{accept_answer, parsed_of};
 ghost use Rattle.ticks.specs.Traces.{trace_of};
 ghost use Rattle.demands.specs.Report.{trace_report};
 ghost use Rattle.demands.specs.Verdicts.{verdict_on, trace_verdicts};
@@ -10,11 +10,10 @@ ghost use Rattle.walk.specs.inner.Places.{shows};
 ghost use Rattle.judge.specs.inner.Walk.{config_in};
 ghost use Rattle.judge.specs.inner.Ending.{Parts, report_of};
 
-use crate::advance::Frame;
+use crate::advance::{Frame, Judging, Tracks};
 use crate::ending::{totals_of, write_end};
 use crate::replies::{judge_records, start_at};
-use rules::Settings;
-use trace::Layout;
+use trace::Acceptance;
 
 fn judge_parts(
     holes: &[u8],
@@ -28,52 +27,37 @@ fn judge_parts(
     ensures report { report.new ≡ report_of f holes.now samples.now report.old }
     ensures verdicts { verdicts.new ≡ map (verdict_on (config_in f) (shows f.cells samples.now)) (replies_in replies.now) }
 {
-    let settings = f.settings;
-    let tests = bounds::tests_of(settings);
-    let lanes = bounds::lanes_of(settings);
-    let mut states = [0u8; 32];
-    let mut firsts = [0xFFFFFFFFu32; 32];
-    let start = start_at();
-    judge_records(
+    let judging = Judging {
+        frame: f,
+        tests: bounds::tests_of(f.settings),
+        lanes: bounds::lanes_of(f.settings),
         holes,
         samples,
-        replies,
-        &tests,
-        &lanes,
-        f,
-        start,
-        &mut states,
-        &mut firsts,
-        verdicts,
-    );
+    };
+    let mut tracks = Tracks {
+        states: [0; 32],
+        firsts: [0xFFFFFFFF; 32],
+    };
+    judge_records(&judging, replies, start_at(), &mut tracks, verdicts);
     let totals = totals_of(holes, samples, f.cells, f.ticks);
-    write_end(&lanes, &states, &firsts, totals, report);
+    write_end(&judging.lanes, &tracks, totals, report);
 }
 
-// Judges an accepted trace with its layout, each section as its own part of the trace.
-pub(crate) fn judge_accepted(
-    s: &[u8],
-    l: Layout,
-    settings: Settings,
-    ticks: u32,
-    report: &mut [u8],
-    verdicts: &mut [u8],
-)
-    requires { (accept_answer s.now ≡ answer (record { layout = l; settings = settings.of; ticks = ticks })) × (length report.old ≡ 187) × (length verdicts.old ≡ l.reply_count) }
-    ensures report { report.new ≡ trace_report (trace_of s.now (record { layout = l; settings = settings.of; ticks = ticks })) }
-    ensures verdicts { verdicts.new ≡ trace_verdicts (trace_of s.now (record { layout = l; settings = settings.of; ticks = ticks })) }
+// Judges an accepted trace, each section as its own part of the trace.
+pub(crate) fn judge_accepted(s: &[u8], accepted: Acceptance, report: &mut [u8], verdicts: &mut [u8])
+    requires { (accept_answer s.now ≡ answer (parsed_of accepted)) × (length report.old ≡ 187) × (length verdicts.old ≡ accepted.layout.reply_count) }
+    ensures report { report.new ≡ trace_report (trace_of s.now (parsed_of accepted)) }
+    ensures verdicts { verdicts.new ≡ trace_verdicts (trace_of s.now (parsed_of accepted)) }
 {
-    let a = l.holes;
-    let b = l.holes_end;
-    let p = l.replies;
-    let q = l.replies_end;
-    let d = l.samples;
+    let l = accepted.layout;
     let f = Frame {
         cells: l.cells,
         idle: l.idle,
         width: l.sample_width,
-        ticks,
-        settings,
+        ticks: accepted.ticks,
+        settings: accepted.settings,
     };
-    judge_parts(&s[a..b], &s[p..q], &s[d..], f, report, verdicts);
+    let holes = &s[l.holes..l.holes_end];
+    let replies = &s[l.replies..l.replies_end];
+    judge_parts(holes, replies, &s[l.samples..], f, report, verdicts);
 }

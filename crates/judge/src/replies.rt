@@ -7,11 +7,11 @@ ghost use Rattle.verdicts.specs.Verdicts.{verdict_of};
 ghost use Rattle.demands.specs.Verdicts.{verdict_on};
 ghost use Rattle.walk.specs.Walk.{start_of};
 ghost use Rattle.walk.specs.inner.Places.{shows};
-ghost use Rattle.judge.specs.inner.Walk.{config_in, Planned, Answering, alarms_of, At, Known};
+ghost use Rattle.judge.specs.inner.Walk.{config_in, Answering, alarms_of, At, Known};
 
-use crate::advance::{Frame, Stop, advance};
+use crate::advance::{Judging, Stop, Tracks};
 use flags::{Flag, Output};
-use verdicts::{Alarms, Tick, Verdict};
+use verdicts::{Alarms, Tick};
 
 // The bits of BatteryStatus, from the least and greatest states.
 fn alarms_in(lanes: &[u8; 32], states: &[u8]) -> Alarms
@@ -43,26 +43,21 @@ fn alarms_for(command: u8, lanes: &[u8; 32], states: &[u8]) -> Alarms
 pub(crate) fn start_at() -> Stop
     ensures { result ≡ record { cursor = start_of; shown = Tick.Unseen } }
 {
-    let cursor = walk::start();
     Stop {
-        cursor,
+        cursor: walk::start(),
         shown: Tick::Unseen,
     }
 }
 
 // The number of the verdict on a reply of six bytes.
+#[tactic(auto, unfolding(verdicts::specs::Verdicts::verdict_answer))]
 fn verdict_on(shown: Tick, alarms: Alarms, reply: &[u8]) -> u8
     requires { length reply.now ≡ 6 }
     ensures { result ≡ verdict_of shown alarms reply.now }
 {
     match verdicts::judge_reply(shown, alarms, reply) {
-        Verdict::WrongAddress => 1,
-        Verdict::WrongCode => 2,
-        Verdict::OtherCommand => 3,
-        Verdict::Agrees => 4,
-        Verdict::Differs => 5,
-        Verdict::CannotTell => 6,
-        Verdict::Refused(why) => 0,
+        Ok(verdict) => verdict.number(),
+        Err(_) => 0,
     }
 }
 
@@ -77,30 +72,22 @@ fn judge_here(shown: Tick, lanes: &[u8; 32], states: &[u8], reply: &[u8]) -> u8
 
 // Walks over the records: judges each reply after its own tick's evaluations, and goes on to the last tick.
 pub(crate) fn judge_records(
-    holes: &[u8],
-    samples: &[u8],
+    judging: &Judging,
     replies: &[u8],
-    tests: &[i32; 64],
-    lanes: &[u8; 32],
-    f: Frame,
     start: Stop,
-    states: &mut [u8],
-    firsts: &mut [u32],
+    tracks: &mut Tracks,
     verdicts: &mut [u8],
 )
-    requires { Planned f tests.now lanes.now × At f holes.now samples.now start states.old firsts.old × (start.cursor.tick ≤ 1) × Answering f.ticks replies.now verdicts.old }
-    ensures known { Known (config_in f) samples.now f.ticks states.new firsts.new }
-    ensures verdicts { verdicts.new ≡ map (verdict_on (config_in f) (shows f.cells samples.now)) (replies_in replies.now) }
+    requires { At judging.now.frame judging.now.holes.now judging.now.samples.now start tracks.old × (start.cursor.tick ≤ 1) × Answering judging.now.frame.ticks replies.now verdicts.old }
+    ensures known { Known (config_in judging.now.frame) judging.now.samples.now judging.now.frame.ticks tracks.new }
+    ensures verdicts { verdicts.new ≡ map (verdict_on (config_in judging.now.frame) (shows judging.now.frame.cells judging.now.samples.now)) (replies_in replies.now) }
 {
     let mut x = start;
-    let mut j: usize = 0;
-    while j < verdicts.len() {
-        let at = j * 10;
-        let to = bytes_le::u32_at(replies, at) + 1;
-        x = advance(holes, samples, tests, lanes, f, x, to, states, firsts);
-        let shown = x.shown;
-        verdicts[j] = judge_here(shown, lanes, states, &replies[at + 4..at + 10]);
-        j += 1;
+    for j in 0..verdicts.len() {
+        let reply = &replies[j * 10..j * 10 + 10];
+        let to = bytes_le::u32_at(reply, 0) + 1;
+        x = judging.advance(x, to, tracks);
+        verdicts[j] = judge_here(x.shown, &judging.lanes, &tracks.states, &reply[4..]);
     }
-    advance(holes, samples, tests, lanes, f, x, f.ticks, states, firsts);
+    judging.advance(x, judging.frame.ticks, tracks);
 }

@@ -8,9 +8,7 @@ ghost use Rattle.trace.specs.Acceptance.{accept_answer};
 ghost use Rattle.lines.specs.Lines.{accepted_lines};
 ghost use Rattle.judge_trace.specs.Text.{lines_of, program_text};
 
-use judge::Judged;
 use refusals::Refusal;
-use trace::ReplyCount;
 
 // Zeros for a text, or for the verdicts of a trace: a trace of 65,536 bytes has at most 6,536 replies.
 pub(crate) fn buffer() -> [u8; 8192]
@@ -46,8 +44,8 @@ fn put_judged(s: &[u8], n: usize, out: &mut [u8]) -> usize
     let mut report = [0u8; 187];
     let verdicts = &mut space[..n];
     match judge::judge(s, &mut report, verdicts) {
-        Judged::Refused(why) => lines::put_refusal(out, why),
-        Judged::Accepted => put_accepted(out, report, verdicts),
+        Err(refusal) => lines::put_refusal(out, refusal),
+        Ok(()) => put_accepted(out, report, verdicts),
     }
 }
 
@@ -62,7 +60,7 @@ pub(crate) fn put_text(s: &[u8], out: &mut [u8]) -> usize
         return lines::put_refusal(out, Refusal::InputLength);
     }
     match trace::reply_count(s) {
-        ReplyCount::Refused(why) => lines::put_refusal(out, why),
-        ReplyCount::Replies(n) => put_judged(s, n, out),
+        Err(why) => lines::put_refusal(out, why),
+        Ok(n) => put_judged(s, n, out),
     }
 }

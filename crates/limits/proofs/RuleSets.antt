@@ -5,7 +5,7 @@ use mathlib.Core.Bool.{Bool, true, false, cond, ◌&&◌, ◌||◌}
 use mathlib.Core.List.{List, [], ◌∷◌, map, ◌++◌, append-nil}
 use native.Mathlib.Numerals.{add-one}
 use native.Mathlib.Omega.{arith}
-use lib.IntN.{ℤ, pos, negsuc}
+use lib.IntN.{ℤ}
 use lib.Dec.{eqb, leb}
 use lib.ListN.{length, length-map, get_or, take, drop, set, length-set, drop_of_length-le}
 use lib.Seq.{take-suc-set, take_all, append_snoc}
@@ -13,27 +13,19 @@ use mir.Syntax.{w32}
 use mir.Val.{to_z, of_z, SFits}
 use mir.Facts.{to_z-of_z}
 use borrow.Author.Tests.{leb-true, leb-false, le-leb, ne_eqb}
+use Rattle.std.specs.Prelude.{Option, Some, None}
 use Rattle.lists.specs.Lists.{tabulate}
 use Rattle.lists.proofs.Bools.{length_tabulate}
-use Rattle.refusals.specs.declared.Refusal.{Refusal}
-use Rattle.refusals.specs.Refusals.{Answer, answer, refused, refusal}
+use Rattle.refusals.specs.Refusals.{Answer, answer, refused}
 use Rattle.refusals.proofs.Answers.{where_true}
 use Rattle.bytes_le.specs.Numbers.{u16_at, i32_at}
 use Rattle.rules.specs.declared.Side.{Side}
 use Rattle.rules.specs.declared.Side.TheVariants.{High, Low}
 use Rattle.rules.specs.declared.Row.{Row}
-use Rattle.limits.specs.declared.RuleSet.{RuleSet}
 use Rattle.rules.specs.declared.Setting.{Setting}
-use Rattle.limits.specs.declared.Limited.TheVariants.{Refused}
-use Rattle.limits.specs.declared.Checked.{Checked}
-use Rattle.limits.specs.declared.Checked.TheVariants.{Accepted, Beyond}
 use Rattle.rules.specs.Table.{row_at}
 use Rattle.rules.specs.Quantities.{least, most}
-use Rattle.limits.specs.Limits.{is_zero, within, limits, setting_at, limits_answer, answer_of_limits, off, settings_if}
-
-pub zero_is : (z : ℤ) → SFits w32 z → eqb (of_z w32 z) 0 ≡ is_zero z
-zero_is (pos k) f = refl
-zero_is (negsuc k) f = ne_eqb (of_z w32 (negsuc k)) 0 (λ e. omega (arith, f.sfits))
+use Rattle.limits.specs.Limits.{within, limits, setting_at, limits_answer, with_settings, off}
 
 -- The limits of threshold and recovery do not ask the time.
 within_any : (recovers : Bool) (side : Side) (lo hi t r : ℤ) (k : ℕ)
@@ -77,11 +69,11 @@ unfolding limits
 time_small n row s e = small s.time _ e
 
 -- The check of a rule: its setting, or that it is outside its limits.
-abbrev pub checked : ℕ → Row → Setting → Checked
-checked n row s = cond (limits n row s) (Accepted s) Beyond
+abbrev pub checked : ℕ → Row → Setting → Option Setting
+checked n row s = cond (limits n row s) (Some s) None
 
 pub checked_is : (n : ℕ) {row row' : Row} {s s' : Setting} {b v : Bool} → b ≡ limits n row s → b ≡ v → row ≡ row' → s ≡ s'
-    → cond v (Accepted s) Beyond ≡ checked n row' s'
+    → cond v (Some s) None ≡ checked n row' s'
 checked_is n e ev er es = rw (← er, ← es, ← e, ev)
 
 pub setting_is : (bytes : List ℕ) (i : ℕ) {t r : ℤ} {k : ℕ} → SFits w32 t → SFits w32 r
@@ -89,15 +81,15 @@ pub setting_is : (bytes : List ℕ) (i : ℕ) {t r : ℤ} {k : ℕ} → SFits w3
     → record { threshold = to_z w32 (of_z w32 t); recovery = to_z w32 (of_z w32 r); time = k } ≡ setting_at bytes i
 setting_is bytes i f g et er ek = rw (to_z-of_z f, to_z-of_z g, et, er, ek)
 
-accepted : (n : ℕ) (row : Row) (s : Setting) {r : Checked} {t : Setting} → r ≡ checked n row s → r ≡ Accepted t → (limits n row s ≡ true) × (t ≡ s)
+accepted : (n : ℕ) (row : Row) (s : Setting) {r : Option Setting} {t : Setting} → r ≡ checked n row s → r ≡ Some t → (limits n row s ≡ true) × (t ≡ s)
 accepted n row s {r} {t} e q = go (limits n row s) refl
   where
     go : (b : Bool) → limits n row s ≡ b → (limits n row s ≡ true) × (t ≡ s)
     go true b = let f = rw b at e in (b, cc)
     go false b = let f = rw b at e in let z : ◌≡◌ {A = ℕ} 0 1 = cc in absurd (omega arith)
 
-beyond : (n : ℕ) (row : Row) (s : Setting) {r : Checked} → r ≡ checked n row s → r ≡ Beyond → limits n row s ≡ false
-beyond n row s {r} e q = go (limits n row s) refl
+outside : (n : ℕ) (row : Row) (s : Setting) {r : Option Setting} → r ≡ checked n row s → r ≡ None → limits n row s ≡ false
+outside n row s {r} e q = go (limits n row s) refl
   where
     go : (b : Bool) → limits n row s ≡ b → limits n row s ≡ false
     go true b = let f = rw b at e in let z : ◌≡◌ {A = ℕ} 0 1 = cc in absurd (omega arith)
@@ -150,8 +142,8 @@ pub record Checking (n m : ℕ) (f : ℕ → Setting) (of : List Setting) (i : �
 pub start : {n m : ℕ} {f : ℕ → Setting} {of : List Setting} → length of ≡ m → Checking n m f of 0
 start h = record { passed = passed_start; long = h; kept = refl }
 
-pub next : {n m : ℕ} {f : ℕ → Setting} {of : List Setting} {i : ℕ} {r : Checked} {s : Setting} → Checking n m f of i → i < m
-    → r ≡ checked n (row_at i) (f i) → r ≡ Accepted s → Checking n m f (set of i s) (i + 1)
+pub next : {n m : ℕ} {f : ℕ → Setting} {of : List Setting} {i : ℕ} {r : Option Setting} {s : Setting} → Checking n m f of i → i < m
+    → r ≡ checked n (row_at i) (f i) → r ≡ Some s → Checking n m f (set of i s) (i + 1)
 next {n} {m} {f} {of} {i} {s = s} c h e q =
     let (held, same) = accepted n (row_at i) (f i) e q in
     let room : i < length of = omega (arith, c.long) in
@@ -161,16 +153,16 @@ next {n} {m} {f} {of} {i} {s = s} c h e q =
       kept = rw (add-one, take-suc-set of i s room, same, append_snoc) (rw (tabulate_next m i f h) at c.kept);
     }
 
-pub stop : {n m : ℕ} {f : ℕ → Setting} {of : List Setting} {i : ℕ} {r : Checked} → Checking n m f of i → i < m
-    → r ≡ checked n (row_at i) (f i) → r ≡ Beyond → answered n m f ≡ refused 7 i
-stop {n} {f = f} {i = i} c h e q = passed_stop c.passed h (beyond n (row_at i) (f i) e q)
+pub stop : {n m : ℕ} {f : ℕ → Setting} {of : List Setting} {i : ℕ} {r : Option Setting} → Checking n m f of i → i < m
+    → r ≡ checked n (row_at i) (f i) → r ≡ None → answered n m f ≡ refused 7 i
+stop {n} {f = f} {i = i} c h e q = passed_stop c.passed h (outside n (row_at i) (f i) e q)
 
 pub end : {n m : ℕ} {f : ℕ → Setting} {of : List Setting} {i : ℕ} → Checking n m f of i → m ≤ i
-    → (answer tt ≡ answered n m f) × (of ≡ settings_if (answered n m f) (tabulate m f))
+    → answer of ≡ with_settings (answered n m f) (tabulate m f)
 end {m = m} {f} {of} {i} c h =
     let e = passed_end c.passed h in
     let k = rw (tabulate_past m i f h, append-nil, take_all i of (omega (arith, c.long))) at c.kept in
-    (sym e, rw e k)
+    rw (e, k)
 
 -- The length of an array in a struct, as it is handed.
 pub long : (X Y : Type 0) (g : X → Y) (l : List X) (n : ℕ) → length (map g l) ≡ n → length l ≡ n
@@ -197,9 +189,3 @@ rule_within n [] ss i h j r s a b = absurd (omega arith)
 rule_within n (r' ∷ rs) [] i h j r s a b = absurd (omega arith)
 rule_within n (r' ∷ rs) (s' ∷ ss) i h zero r s a b = (where_true (limits n r' s') 7 i _ h).0
 rule_within n (r' ∷ rs) (s' ∷ ss) i h (suc j) r s a b = rule_within n rs ss (suc i) (where_true (limits n r' s') 7 i _ h).1 j r s (omega arith) (omega arith)
-
--- A refused rule set.
-pub refuses : {r : RuleSet} {why : Refusal} {a : Answer (Unit {0})} (ss : List Setting)
-    → (r.answer ≡ Refused why) × (r.settings.of ≡ tabulate 16 (λ i. off)) → a ≡ refusal why
-    → (answer_of_limits r.answer ≡ a) × (r.settings.of ≡ settings_if a ss)
-refuses ss (e, f) h = (rw (e, h), rw (f, h))

@@ -1,15 +1,15 @@
 -- Paper 01, 'The sixteen rules': the limits of a rule's numbers, and a rule set lent as 160 bytes (refusals 3, 6 and 7).
-use Rattle.std.specs.Prelude.{ℕ, suc, ◌+◌, ◌*◌, Bool, true, false, cond, ◌&&◌, ◌||◌, List, [], ◌∷◌, ℤ, pos, negsuc, leb, eqb, length, get_or}
+use Rattle.std.specs.Prelude.{ℕ, suc, ◌+◌, ◌*◌, Bool, true, false, cond, ◌&&◌, ◌||◌, List, [], ◌∷◌, ℤ, pos, negsuc, leb, eqb, length, get_or, Result, Ok, Err}
 use Rattle.std.specs.Int.Signed.{lt_z, le_z}
 use Rattle.lists.specs.Lists.{tabulate}
-use Rattle.refusals.specs.Refusals.{Answer, answer, refused, refusal}
+use Rattle.refusals.specs.declared.Refusal.{Refusal}
+use Rattle.refusals.specs.Refusals.{Answer, answer, refused, refusal, and_then}
 use Rattle.bytes_le.specs.Numbers.{u16_at, i32_at}
 use Rattle.rules.specs.declared.Side.{Side}
 use Rattle.rules.specs.declared.Side.TheVariants.{High, Low}
 use Rattle.rules.specs.declared.Row.{Row}
 use Rattle.rules.specs.declared.Setting.{Setting}
-use Rattle.limits.specs.declared.Limited.{Limited}
-use Rattle.limits.specs.declared.Limited.TheVariants.{Within, Refused}
+use Rattle.rules.specs.declared.Settings.{Settings}
 use Rattle.rules.specs.Samples.{cell_count}
 use Rattle.rules.specs.Table.{rows}
 use Rattle.rules.specs.Quantities.{least, most}
@@ -46,11 +46,6 @@ limits_answer n [] ss i = answer tt
 limits_answer n (row ∷ rows) [] i = answer tt
 limits_answer n (row ∷ rows) (s ∷ ss) i = cond (limits n row s) (limits_answer n rows ss (suc i)) (refused 7 i)
 
--- What the check of a rule set answers, in the paper's numbers.
-abbrev pub answer_of_limits : Limited → Answer (Unit {0})
-answer_of_limits Within = answer tt
-answer_of_limits (Refused why) = refusal why
-
 -- The check of a rule set for n cells: refusal 3 unless n is 3 to 12, 6 unless it has 160 bytes, then 7.
 unfoldable pub rule_set_answer : ℕ → List ℕ → Answer (Unit {0})
 rule_set_answer n bytes =
@@ -64,7 +59,11 @@ off = record { threshold = pos 0; recovery = pos 0; time = 0 }
 abbrev pub setting_of : List Setting → ℕ → Setting
 setting_of ss i = get_or ss i off
 
--- The settings that the check hands on: those of the bytes, or all off where it refuses.
-abbrev pub settings_if : Answer (Unit {0}) → List Setting → List Setting
-settings_if (answer done) ss = ss
-settings_if (refused number place) ss = tabulate 16 (λ i. off)
+-- What the check hands on where it passes.
+abbrev pub with_settings : Answer (Unit {0}) → List Setting → Answer (List Setting)
+with_settings a ss = and_then a (λ done. answer ss)
+
+-- What the check of a rule set answers, in the paper's numbers.
+abbrev pub answer_of_settings : Result Settings Refusal → Answer (List Setting)
+answer_of_settings (Ok s) = answer s.of
+answer_of_settings (Err why) = refusal why

@@ -1,9 +1,8 @@
 // The lines that the programs write (paper 01, 'Refusal numbers').
 #![tactic(auto)]
 
-ghost use Rattle.std.specs.Prelude.{◌++◌, ◌≡◌, ◌+◌, ◌%◌, ◌≤◌, length};
+ghost use Rattle.std.specs.Prelude.{◌++◌, ◌≡◌, ◌+◌, ◌≤◌, length};
 ghost use Rattle.io.specs.Counts.{IsPrefixLen};
-ghost use Rattle.io.specs.Digits.{hex_digit_ascii};
 ghost use Rattle.bytes_le.specs.Writing.{put_at};
 ghost use Rattle.refusals.specs.Refusals.{number_of, place_of};
 ghost use Rattle.lines.specs.Lines.{decimal, refusal_line, hex_line, verdict_digits, put_length};
@@ -30,14 +29,14 @@ fn lay_refusal(line: &mut [u8], why: Refusal) -> usize
     ensures value { result ≡ length (refusal_line (number_of why) (place_of why)) }
     ensures line_after { line.new ≡ put_at line.old 0 (refusal_line (number_of why) (place_of why)) }
 {
-    let a = put_number(line, 0, b"refused ", refusals::number(why) as u64);
-    let b = put_number(line, a, b" at ", refusals::place(why) as u64);
+    let a = put_number(line, 0, b"refused ", why.number() as u64);
+    let b = put_number(line, a, b" at ", why.place() as u64);
     put_bytes(line, b, b"\n");
     b + 1
 }
 
 // Puts the line of a refusal at the start of a buffer, in paper 01's numbers, and answers how many bytes it put: none where the line
-// does not fit.
+// does not fit. A length and no `Option`, since a text of no bytes is what the program then writes.
 pub fn put_refusal(buffer: &mut [u8], why: Refusal) -> usize
     ensures put { result ≡ put_length buffer.old (refusal_line (number_of why) (place_of why)) }
     ensures bytes { buffer.new ≡ put_at buffer.old 0 (refusal_line (number_of why) (place_of why)) }
@@ -52,24 +51,11 @@ pub fn put_refusal(buffer: &mut [u8], why: Refusal) -> usize
     n
 }
 
-fn hex_digit(v: u8) -> u8
-    ensures { result ≡ hex_digit_ascii (v % 16) }
-{
-    let digit = v % 16;
-    if digit < 10 { b'0' + digit } else { 87 + digit }
-}
-
-fn hex_line(report: [u8; 187]) -> [u8; 375]
-    ensures { result ≡ hex_line report }
+fn hex_line(report: &[u8; 187]) -> [u8; 375]
+    ensures { result ≡ hex_line report.now }
 {
     let mut text = [b'\n'; 375];
-    let mut i: usize = 0;
-    while i < 187 {
-        let byte = report[i];
-        text[2 * i] = hex_digit(byte / 16);
-        text[2 * i + 1] = hex_digit(byte);
-        i += 1;
-    }
+    hex::encode_to_slice(report, &mut text[..374]).unwrap();
     text
 }
 
@@ -77,7 +63,7 @@ fn hex_line(report: [u8; 187]) -> [u8; 375]
 pub fn put_report(buffer: &mut [u8], at: usize, report: [u8; 187])
     ensures { buffer.new ≡ put_at buffer.old at (hex_line report) }
 {
-    let text = hex_line(report);
+    let text = hex_line(&report);
     put_bytes(buffer, at, &text);
 }
 
@@ -85,9 +71,7 @@ pub fn put_report(buffer: &mut [u8], at: usize, report: [u8; 187])
 pub fn to_digits(verdicts: &mut [u8])
     ensures { verdicts.new ≡ verdict_digits verdicts.old }
 {
-    let mut i: usize = 0;
-    while i < verdicts.len() {
-        verdicts[i] = b'0' + verdicts[i] % 10;
-        i += 1;
+    for verdict in verdicts.iter_mut() {
+        *verdict = b'0' + *verdict % 10;
     }
 }

@@ -8,13 +8,17 @@ use lib.Dec.{ltb, eqb}
 use lib.IntN.{ℤ}
 use lib.ListN.{length}
 use borrow.Author.Tests.{le-leb, lt-leb, lt-ltb, le-ltb, eq-eqb, ne_eqb}
+use Rattle.std.specs.Prelude.{Ok, Err}
 use Rattle.lists.specs.Lists.{tabulate}
 use Rattle.refusals.specs.declared.Refusal.{Refusal}
-use Rattle.refusals.specs.Refusals.{Answer, answer, refused, refusal, or_kept}
+use Rattle.refusals.specs.Refusals.{Answer, answer, refused, refusal, answer_of, or_kept}
+use Rattle.refusals.proofs.Answers.{clash}
+use Rattle.rules.specs.declared.Setting.{Setting}
 use Rattle.rules.specs.declared.Settings.{Settings}
 use Rattle.rules.specs.declared.Readings.{Readings}
 use Rattle.rules.specs.Samples.{Sample, cell_count, readings_of}
-use Rattle.limits.specs.Limits.{off, settings_of, settings_if, rule_set_answer}
+use Rattle.limits.specs.Limits.{off, settings_of, with_settings, rule_set_answer}
+use Rattle.trace.proofs.Outcomes.{passed}
 use Rattle.samples.specs.Answers.{read_answer}
 use Rattle.fillings.specs.Charge.{inward, outward}
 use Rattle.report.specs.declared.Totals.{Totals}
@@ -23,21 +27,20 @@ use Rattle.states.specs.Records.{fresh}
 use Rattle.states.specs.Steps.{after_seen, after_unseen}
 use Rattle.live.specs.declared.Live.{Live}
 use Rattle.live.specs.declared.Step.{Step}
-use Rattle.live.specs.declared.Fed.TheVariants.{Taken, Refused}
 use Rattle.live.specs.State.{good, begun, with_sample, with_hole}
-use Rattle.live.specs.Calls.{answer_of_fed, begin_answer, begin_state, sample_answer, hole_answer}
+use Rattle.live.specs.Calls.{begin_answer, begin_state, sample_answer, hole_answer}
 use Rattle.live.specs.inner.Steps.{Stepped, count_sample, count_hole}
 use Rattle.live.proofs.GoodStates.{parts}
 
-pub refuses : {r : Step} {why : Refusal} {a : Answer (Unit {0})} {new old : Live} → r ≡ record { answer = Refused why; state = old } → a ≡ refusal why → Stepped r a new old
+pub refuses : {r : Step} {why : Refusal} {a : Answer (Unit {0})} {new old : Live} → r ≡ record { answer = Err why; state = old } → a ≡ refusal why → Stepped r a new old
 refuses e h = rw (e, h) (record { answer = refl; state = refl })
 
-pub takes : {st new old : Live} {a : Answer (Unit {0})} → st ≡ new → a ≡ answer tt → Stepped (record { answer = Taken; state = st }) a new old
+pub takes : {st new old : Live} {a : Answer (Unit {0})} → st ≡ new → a ≡ answer tt → Stepped (record { answer = Ok tt; state = st }) a new old
 takes e h = rw h (record { answer = refl; state = e })
 
 -- A refused call, of whatever answer.
-pub refused_call : (new : Live) {r : Step} {why : Refusal} {a : Answer (Unit {0})} {old : Live} → r ≡ record { answer = Refused why; state = old } → a ≡ refusal why
-    → (answer_of_fed r.answer ≡ a) × (r.state ≡ or_kept a (λ taken. new) old)
+pub refused_call : (new : Live) {r : Step} {why : Refusal} {a : Answer (Unit {0})} {old : Live} → r ≡ record { answer = Err why; state = old } → a ≡ refusal why
+    → (answer_of r.answer ≡ a) × (r.state ≡ or_kept a (λ taken. new) old)
 refused_call new e h = let t = refuses {new = new} e h in (t.answer, t.state)
 
 pub no_sample : (s : Live) (tick : ℕ) (x : Sample) → good s ≡ false → sample_answer s tick x ≡ refused 16 0
@@ -59,17 +62,22 @@ pub begun_is : (n idle : ℕ) (ss : Settings) (st : States) → st.words ≡ fre
 begun_is n idle ss st e =
     ap (λ (w : List ℕ). record { cells = n; idle = idle; settings = ss; states = record { words = w }; totals = record { charge_in = 0; charge_out = 0; unseen = 0; ticks = 0 } }) e
 
+-- A rule set that is refused.
+pub unset : (a : Answer (Unit {0})) (ss : List Setting) {n p : ℕ} → refused n p ≡ with_settings a ss → a ≡ refused n p
+unset (answer u) ss h = absurd (clash h)
+unset (refused n p) ss h = cc
+
 module _ (n idle : ℕ) (bytes : List ℕ) where
   -- a refused beginning, and one that is taken
-  pub begin_refused : {r : Step} {why : Refusal} → r ≡ record { answer = Refused why; state = begun 3 0 (tabulate 16 (λ i. off)) } → begin_answer n idle bytes ≡ refusal why
-      → (answer_of_fed r.answer ≡ begin_answer n idle bytes) × (r.state ≡ begin_state n idle bytes)
+  pub begin_refused : {r : Step} {why : Refusal} → r ≡ record { answer = Err why; state = begun 3 0 (tabulate 16 (λ i. off)) } → begin_answer n idle bytes ≡ refusal why
+      → (answer_of r.answer ≡ begin_answer n idle bytes) × (r.state ≡ begin_state n idle bytes)
   begin_refused e h = (rw (e, h), rw (e, h))
 
-  pub begin_taken : {st : Live} {ss : Settings} → st ≡ begun n idle ss.of → answer tt ≡ rule_set_answer n bytes → ss.of ≡ settings_if (rule_set_answer n bytes) (settings_of bytes)
+  pub begin_taken : {st : Live} {ss : Settings} → st ≡ begun n idle ss.of → answer ss.of ≡ with_settings (rule_set_answer n bytes) (settings_of bytes)
       → begin_answer n idle bytes ≡ rule_set_answer n bytes → (answer tt ≡ begin_answer n idle bytes) × (st ≡ begin_state n idle bytes)
-  begin_taken {ss = ss} e h f b =
-      let a : begin_answer n idle bytes ≡ answer tt = b ∙ sym h in
-      let k : ss.of ≡ settings_of bytes = rw (← h) at f in
+  begin_taken {ss = ss} e h b =
+      let (r, k) = passed _ h in
+      let a : begin_answer n idle bytes ≡ answer tt = b ∙ r in
       (sym a, rw (a, ← k) e)
 
   pub few_cells : cell_count n ≡ false → begin_answer n idle bytes ≡ refused 3 0

@@ -1,7 +1,7 @@
 -- Paper 01, 'Live feed' and 'Refusal numbers': what each call answers for any state, and the state after it.
 use Rattle.std.specs.Prelude.{ℕ, cond, ◌&&◌, List, ltb, leb, eqb, length}
 use Rattle.lists.specs.Lists.{tabulate}
-use Rattle.refusals.specs.Refusals.{Answer, answer, refused, refusal, or_kept}
+use Rattle.refusals.specs.Refusals.{Answer, answer, refused, or_kept}
 use Rattle.rules.specs.Table.{rows}
 use Rattle.rules.specs.Samples.{Sample, cell_count}
 use Rattle.limits.specs.Limits.{limits_answer, settings_of, off}
@@ -12,20 +12,10 @@ use Rattle.flags.specs.Flags.{number_of}
 use Rattle.flags.specs.Outputs.{output_of, drivers, statuses_of}
 use Rattle.report.specs.declared.Totals.{Totals}
 use Rattle.states.specs.Readings.{all_flags}
-use Rattle.totals.specs.Totals.{Bounds, bounds_from}
+use Rattle.totals.specs.declared.NetCharge.{NetCharge}
+use Rattle.totals.specs.Totals.{bounds_from}
 use Rattle.live.specs.declared.Live.{Live}
-use Rattle.live.specs.declared.Fed.{Fed}
-use Rattle.live.specs.declared.Fed.TheVariants.{Taken, Refused}
-use Rattle.live.specs.declared.OutputRead.{OutputRead}
-use Rattle.live.specs.declared.OutputRead.TheVariants as outputs
-use Rattle.live.specs.declared.TotalsRead.{TotalsRead}
-use Rattle.live.specs.declared.TotalsRead.TheVariants as totals
 use Rattle.live.specs.State.{good, begun, with_sample, with_hole}
-
--- What a call answers, in the paper's numbers.
-abbrev pub answer_of_fed : Fed → Answer (Unit {0})
-answer_of_fed Taken = answer tt
-answer_of_fed (Refused why) = refusal why
 
 -- A beginning: refusals 3, 4, 6 and 7 in that order.
 unfoldable pub begin_answer : ℕ → ℕ → List ℕ → Answer (Unit {0})
@@ -70,18 +60,10 @@ flags_read s = cond (good s) (all_flags s.settings.of s.states.words) (tabulate 
 abbrev pub output_read : Live → Output → Answer ℕ
 output_read s o = of_good s (number_of (output_of (drivers o) rows (statuses_of (all_flags s.settings.of s.states.words))))
 
-abbrev pub answer_of_output : OutputRead → Answer ℕ
-answer_of_output (outputs.Reads f) = answer (number_of f)
-answer_of_output (outputs.Refused why) = refusal why
-
 -- Charge in and out, unseen ticks, ticks.
 abbrev pub totals_read : Live → Answer Totals
 totals_read s = of_good s s.totals
 
-abbrev pub answer_of_totals : TotalsRead → Answer Totals
-answer_of_totals (totals.Counted t) = answer t
-answer_of_totals (totals.Refused why) = refusal why
-
 -- The bounds of the net charge.
-abbrev pub net_read : Live → Answer Bounds
+abbrev pub net_read : Live → Answer NetCharge
 net_read s = of_good s (bounds_from s.totals.charge_in s.totals.charge_out s.totals.unseen)

@@ -4,7 +4,7 @@ ghost use Rattle.lists.specs.Lists.{tabulate};
 ghost use Rattle.limits.specs.Limits.{off};
 ghost use Rattle.live.specs.State.{begun};
 
-use crate::{Fed, Live, Step};
+use crate::{Live, Step};
 use refusals::Refusal;
 use report::Totals;
 use rules::{Setting, Settings};
@@ -14,12 +14,11 @@ use states::States;
 pub(crate) fn begun(cells: u8, idle: u16, settings: Settings) -> Live
     ensures { result ≡ begun cells idle settings.of }
 {
-    let states = States::begin();
     Live {
         cells,
         idle,
         settings,
-        states,
+        states: States::begin(),
         totals: Totals {
             charge_in: 0,
             charge_out: 0,
@@ -31,18 +30,13 @@ pub(crate) fn begun(cells: u8, idle: u16, settings: Settings) -> Live
 
 // A refused beginning: three cells, idle 0, every rule switched off.
 pub(crate) fn refuse_begin(why: Refusal) -> Step
-    ensures { result ≡ record { answer = Fed.Refused why; state = begun 3 0 (tabulate 16 (λ i. off)) } }
+    ensures { result ≡ record { answer = Err why; state = begun 3 0 (tabulate 16 (λ i. off)) } }
 {
     let settings = Settings {
-        of: [Setting {
-            threshold: 0,
-            recovery: 0,
-            time: 0,
-        }; 16],
+        of: [Setting::OFF; 16],
     };
-    let state = begun(3, 0, settings);
     Step {
-        answer: Fed::Refused(why),
-        state,
+        answer: Err(why),
+        state: begun(3, 0, settings),
     }
 }

@@ -3,9 +3,10 @@
 #![tactic(auto)]
 
 ghost use Rattle.std.specs.Prelude.{◌≡◌};
+ghost use Rattle.refusals.specs.Refusals.{answer_of, answer_as};
 ghost use Rattle.rules.specs.Samples.{sample_of};
-ghost use Rattle.live.specs.Calls.{answer_of_fed, begin_answer, begin_state, sample_answer, sample_state, hole_answer, hole_state, of_good, flags_read, output_read, answer_of_output, totals_read, answer_of_totals, net_read};
-ghost use Rattle.totals.specs.Totals.{answer_of_net};
+ghost use Rattle.flags.specs.Flags.{number_of};
+ghost use Rattle.live.specs.Calls.{begin_answer, begin_state, sample_answer, sample_state, hole_answer, hole_state, of_good, flags_read, output_read, totals_read, net_read};
 
 mod beginning;
 mod checks;
@@ -14,7 +15,6 @@ mod steps;
 use beginning::{begun, refuse_begin};
 use checks::is_good;
 use flags::{Flag, Flags, Output, RuleFlags};
-use limits::Limited;
 use refusals::Refusal;
 use report::Totals;
 use rules::{Settings, is_cell_count};
@@ -23,7 +23,7 @@ use steps::{refuse, take_hole, take_sample};
 use totals::NetCharge;
 
 // Head, rules, possible states and totals; the expected tick is `totals.ticks`.
-#[derive(Clone, Copy)]
+#[derive(Clone, Copy, Debug, PartialEq, Eq)]
 pub struct Live {
     pub cells: u8,
     pub idle: u16,
@@ -32,22 +32,16 @@ pub struct Live {
     pub totals: Totals,
 }
 
-#[derive(Clone, Copy)]
-pub enum Fed {
-    Taken,
-    Refused(Refusal),
-}
-
-// What a call that feeds answers: whether it was taken, and the state after it.
-#[derive(Clone, Copy)]
+// What a call that feeds answers: whether it was taken, and the state after it. A refused call answers a state too.
+#[derive(Clone, Copy, Debug, PartialEq, Eq)]
 pub struct Step {
-    pub answer: Fed,
+    pub answer: Result<(), Refusal>,
     pub state: Live,
 }
 
 // Begins a feed, from rules lent as 160 bytes. A refused beginning answers the state begun from 3 cells, idle 0 and rules of zeros.
 pub fn begin(cells: u8, idle: u16, rules: &[u8]) -> Step
-    ensures answer { answer_of_fed result.answer ≡ begin_answer cells idle rules.now }
+    ensures answer { answer_of result.answer ≡ begin_answer cells idle rules.now }
     ensures state { result.state ≡ begin_state cells idle rules.now }
 {
     if !is_cell_count(cells) {
@@ -56,18 +50,12 @@ pub fn begin(cells: u8, idle: u16, rules: &[u8]) -> Step
     if 32766 < idle {
         return refuse_begin(Refusal::IdleCurrent);
     }
-    let checked = limits::check_rules(cells, rules);
-    let answer = checked.answer;
-    let settings = checked.settings;
-    match answer {
-        Limited::Refused(why) => refuse_begin(why),
-        Limited::Within => {
-            let state = begun(cells, idle, settings);
-            Step {
-                answer: Fed::Taken,
-                state,
-            }
-        }
+    match limits::check_rules(cells, rules) {
+        Err(why) => refuse_begin(why),
+        Ok(settings) => Step {
+            answer: Ok(()),
+            state: begun(cells, idle, settings),
+        },
     }
 }
 
@@ -80,7 +68,7 @@ pub fn sample(
     volts: &[u16],
     temps: &[i16],
 ) -> Step
-    ensures answer { answer_of_fed result.answer ≡ sample_answer state tick (sample_of current board volts.now temps.now) }
+    ensures answer { answer_of result.answer ≡ sample_answer state tick (sample_of current board volts.now temps.now) }
     ensures state { result.state ≡ sample_state state tick (sample_of current board volts.now temps.now) }
 {
     if is_good(state) {
@@ -91,7 +79,7 @@ pub fn sample(
 
 // Takes a hole from the expected tick up to its last tick.
 pub fn hole(state: Live, last: u32) -> Step
-    ensures answer { answer_of_fed result.answer ≡ hole_answer state last }
+    ensures answer { answer_of result.answer ≡ hole_answer state last }
     ensures state { result.state ≡ hole_state state last }
 {
     if is_good(state) {
@@ -100,24 +88,21 @@ pub fn hole(state: Live, last: u32) -> Step
     refuse(Refusal::State, state)
 }
 
-// The flags of all rules; all unknown where the call refuses.
-#[derive(Clone, Copy)]
+// The flags of all rules. Those of no good state are all unknown, so that they read neither held nor clear where the answer is not looked at.
+#[derive(Clone, Copy, Debug, PartialEq, Eq)]
 pub struct FlagsRead {
-    pub answer: Fed,
+    pub answer: Result<(), Refusal>,
     pub flags: Flags,
 }
 
 pub fn flags(state: Live) -> FlagsRead
-    ensures answer { answer_of_fed result.answer ≡ of_good state tt }
+    ensures answer { answer_of result.answer ≡ of_good state tt }
     ensures flags { result.flags.of ≡ flags_read state }
 {
     if is_good(state) {
-        let settings = state.settings;
-        let states = state.states;
-        let flags = states.flags(settings);
         return FlagsRead {
-            answer: Fed::Taken,
-            flags,
+            answer: Ok(()),
+            flags: state.states.flags(state.settings),
         };
     }
     let unknown = RuleFlags {
@@ -125,50 +110,32 @@ pub fn flags(state: Live) -> FlagsRead
         status: Flag::Unknown,
     };
     FlagsRead {
-        answer: Fed::Refused(Refusal::State),
+        answer: Err(Refusal::State),
         flags: Flags { of: [unknown; 16] },
     }
 }
 
-#[derive(Clone, Copy)]
-pub enum OutputRead {
-    Reads(Flag),
-    Refused(Refusal),
-}
-
 // C open, D open, the fuse, or one of the three bits of BatteryStatus.
-pub fn output(state: Live, o: Output) -> OutputRead
-    ensures { answer_of_output result ≡ output_read state o }
+pub fn output(state: Live, o: Output) -> Result<Flag, Refusal>
+    ensures { answer_as number_of result ≡ output_read state o }
 {
     if is_good(state) {
-        let settings = state.settings;
-        let states = state.states;
-        let flags = states.flags(settings);
-        return OutputRead::Reads(flags::output_of(flags, o));
+        let flags = state.states.flags(state.settings);
+        return Ok(flags::output_of(flags, o));
     }
-    OutputRead::Refused(Refusal::State)
-}
-
-#[derive(Clone, Copy)]
-pub enum TotalsRead {
-    Counted(Totals),
-    Refused(Refusal),
+    Err(Refusal::State)
 }
 
 // Charge in and out, unseen ticks, ticks.
-pub fn totals(state: Live) -> TotalsRead
-    ensures { answer_of_totals result ≡ totals_read state }
+pub fn totals(state: Live) -> Result<Totals, Refusal>
+    ensures { answer_of result ≡ totals_read state }
 {
-    if is_good(state) {
-        let counted = state.totals;
-        return TotalsRead::Counted(counted);
-    }
-    TotalsRead::Refused(Refusal::State)
+    is_good(state).then_some(state.totals).ok_or(Refusal::State)
 }
 
 // The least and the greatest net charge, in mA seconds.
-pub fn net_charge(state: Live) -> NetCharge
-    ensures { answer_of_net result ≡ net_read state }
+pub fn net_charge(state: Live) -> Result<NetCharge, Refusal>
+    ensures { answer_of result ≡ net_read state }
 {
     if is_good(state) {
         let counted = state.totals;
@@ -179,5 +146,5 @@ pub fn net_charge(state: Live) -> NetCharge
             counted.ticks,
         );
     }
-    NetCharge::Refused(Refusal::State)
+    Err(Refusal::State)
 }

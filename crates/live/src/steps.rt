@@ -6,18 +6,17 @@ ghost use Rattle.live.specs.State.{good, with_sample, with_hole};
 ghost use Rattle.live.specs.Calls.{sample_answer, hole_answer};
 ghost use Rattle.live.specs.inner.Steps.{Stepped, count_sample, count_hole};
 
-use crate::{Fed, Live, Step};
+use crate::{Live, Step};
 use refusals::Refusal;
 use report::Totals;
 use rules::Readings;
-use samples::Read;
 
 // A refused call answers the state that it was given.
 pub(crate) fn refuse(why: Refusal, state: Live) -> Step
-    ensures { result ≡ record { answer = Fed.Refused why; state = state } }
+    ensures { result ≡ record { answer = Err why; state = state } }
 {
     Step {
-        answer: Fed::Refused(why),
+        answer: Err(why),
         state,
     }
 }
@@ -29,8 +28,8 @@ fn count_sample(counted: Totals, current: i16) -> Totals
     Totals {
         charge_in: counted.charge_in + totals::inward_of(current),
         charge_out: counted.charge_out + totals::outward_of(current),
-        unseen: counted.unseen,
         ticks: counted.ticks + 1,
+        ..counted
     }
 }
 
@@ -39,10 +38,9 @@ fn count_hole(counted: Totals, last: u32) -> Totals
     ensures { result ≡ count_hole counted last }
 {
     Totals {
-        charge_in: counted.charge_in,
-        charge_out: counted.charge_out,
         unseen: counted.unseen + (last - counted.ticks + 1),
         ticks: last + 1,
+        ..counted
     }
 }
 
@@ -51,17 +49,13 @@ fn with_sample(state: Live, current: i16, readings: Readings) -> Live
     requires { (good state ≡ true) × (state.totals.ticks < 0xFFFFFFFF) }
     ensures { (x : Sample) → x.current ≡ current → readings ≡ readings_of x → result ≡ with_sample state x }
 {
-    let settings = state.settings;
-    let states = state.states;
     let counted = state.totals;
-    let next = states.seen(settings, state.idle, counted.ticks, readings);
-    let total = count_sample(counted, current);
     Live {
-        cells: state.cells,
-        idle: state.idle,
-        settings,
-        states: next,
-        totals: total,
+        states: state
+            .states
+            .seen(state.settings, state.idle, counted.ticks, readings),
+        totals: count_sample(counted, current),
+        ..state
     }
 }
 
@@ -70,17 +64,11 @@ fn with_hole(state: Live, last: u32) -> Live
     requires { (good state ≡ true) × (state.totals.ticks ≤ last) × (last < 0xFFFFFFFF) }
     ensures { result ≡ with_hole state last }
 {
-    let settings = state.settings;
-    let states = state.states;
     let counted = state.totals;
-    let next = states.unseen(settings, counted.ticks, last);
-    let total = count_hole(counted, last);
     Live {
-        cells: state.cells,
-        idle: state.idle,
-        settings,
-        states: next,
-        totals: total,
+        states: state.states.unseen(state.settings, counted.ticks, last),
+        totals: count_hole(counted, last),
+        ..state
     }
 }
 
@@ -89,16 +77,14 @@ fn take_readings(state: Live, tick: u32, current: i16, readings: Readings) -> St
     requires { good state ≡ true }
     ensures { (x : Sample) → x.current ≡ current → readings ≡ readings_of x → Stepped result (cond (eqb tick state.totals.ticks && ltb tick 0xFFFFFFFF) (answer tt) (refused 9 state.totals.ticks)) (with_sample state x) state }
 {
-    let counted = state.totals;
-    let expected = counted.ticks;
+    let expected = state.totals.ticks;
     if tick != expected {
         return refuse(Refusal::Coverage { tick: expected }, state);
     }
     if tick < 0xFFFFFFFF {
-        let next = with_sample(state, current, readings);
         return Step {
-            answer: Fed::Taken,
-            state: next,
+            answer: Ok(()),
+            state: with_sample(state, current, readings),
         };
     }
     refuse(Refusal::Coverage { tick: expected }, state)
@@ -117,8 +103,8 @@ pub(crate) fn take_sample(
     ensures { Stepped result (sample_answer state tick (sample_of current board volts.now temps.now)) (with_sample state (sample_of current board volts.now temps.now)) state }
 {
     match samples::read_sample(state.cells, current, board, volts, temps) {
-        Read::Refused(why) => refuse(why, state),
-        Read::Taken(readings) => take_readings(state, tick, current, readings),
+        Err(why) => refuse(why, state),
+        Ok(readings) => take_readings(state, tick, current, readings),
     }
 }
 
@@ -127,16 +113,14 @@ pub(crate) fn take_hole(state: Live, last: u32) -> Step
     requires { good state ≡ true }
     ensures { Stepped result (hole_answer state last) (with_hole state last) state }
 {
-    let counted = state.totals;
-    let expected = counted.ticks;
+    let expected = state.totals.ticks;
     if last < expected {
         return refuse(Refusal::Hole { place: expected }, state);
     }
     if last < 0xFFFFFFFF {
-        let next = with_hole(state, last);
         return Step {
-            answer: Fed::Taken,
-            state: next,
+            answer: Ok(()),
+            state: with_hole(state, last),
         };
     }
     refuse(Refusal::Hole { place: expected }, state)

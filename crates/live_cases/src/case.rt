@@ -5,132 +5,100 @@ use report::Totals;
 use rules::{Setting, Settings};
 use states::States;
 
-// The bytes of the rules that a beginning is lent, and one more.
+// What the calls are given beside a state. The rules are the bytes that a beginning is lent, and one more.
 #[derive(Clone, Copy)]
-pub(crate) struct Lent {
-    pub(crate) bytes: [u8; 161],
-}
-
-// The fields that have no place, by their letters.
-#[derive(Clone, Copy)]
-pub(crate) struct Numbers {
-    pub(crate) of: [u64; 32],
+pub(crate) struct Given {
+    pub(crate) tick: u32,
+    pub(crate) volts: u8,
+    pub(crate) temps: u8,
+    pub(crate) cells: u8,
+    pub(crate) idle: u16,
+    pub(crate) rules: [u8; 161],
+    pub(crate) length: u8,
 }
 
 #[derive(Clone, Copy)]
 pub(crate) struct Case {
-    pub(crate) states: States,
-    pub(crate) settings: Settings,
-    pub(crate) lent: Lent,
-    pub(crate) numbers: Numbers,
+    pub(crate) state: Live,
+    pub(crate) given: Given,
 }
 
-pub(crate) fn no_case() -> Case {
-    let off = Setting {
-        threshold: 0,
-        recovery: 0,
-        time: 0,
-    };
-    Case {
-        states: States { words: [0; 80] },
-        settings: Settings { of: [off; 16] },
-        lent: Lent { bytes: [0; 161] },
-        numbers: Numbers { of: [0; 32] },
+// A number below 0 comes as 64 bits, and of one past 31 bits the lowest 31 count.
+fn signed(value: u64) -> i32 {
+    i32::try_from(value).unwrap_or(i32::MIN + (value % 0x80000000) as i32)
+}
+
+impl Case {
+    pub(crate) fn new() -> Case {
+        let off = Setting {
+            threshold: 0,
+            recovery: 0,
+            time: 0,
+        };
+        Case {
+            state: Live {
+                cells: 0,
+                idle: 0,
+                settings: Settings { of: [off; 16] },
+                states: States { words: [0; 80] },
+                totals: Totals {
+                    charge_in: 0,
+                    charge_out: 0,
+                    unseen: 0,
+                    ticks: 0,
+                },
+            },
+            given: Given {
+                tick: 0,
+                volts: 0,
+                temps: 0,
+                cells: 0,
+                idle: 0,
+                rules: [0; 161],
+                length: 0,
+            },
+        }
     }
-}
 
-fn with_word(mut states: States, word: Word) -> States {
-    let k = word.place % 80;
-    if word.field == b'w' {
-        states.words[k] = word.value;
+    // A field that has a place, by its letter.
+    fn set_at(&mut self, letter: u8, place: usize, value: u64) {
+        let setting = &mut self.state.settings.of[place % 16];
+        match letter {
+            b't' => setting.threshold = signed(value),
+            b'r' => setting.recovery = signed(value),
+            b's' => setting.time = (value % 256) as u8,
+            b'w' => self.state.states.words[place % 80] = value,
+            b'b' => self.given.rules[place % 161] = (value % 256) as u8,
+            _ => {}
+        }
     }
-    states
-}
 
-fn with_byte(mut lent: Lent, word: Word) -> Lent {
-    let k = word.place % 161;
-    if word.field == b'b' {
-        lent.bytes[k] = (word.value % 256) as u8;
+    // A field that has none, by the last five bits of its letter: a capital letter names it too. Of the value the bits count that
+    // the field holds.
+    fn set_number(&mut self, letter: u8, value: u64) {
+        let in8 = (value % 256) as u8;
+        let in16 = (value % 65536) as u16;
+        let in32 = (value % 4294967296) as u32;
+        match letter % 32 + 96 {
+            b'c' => self.state.cells = in8,
+            b'i' => self.state.idle = in16,
+            b'g' => self.state.totals.charge_in = value,
+            b'l' => self.state.totals.charge_out = value,
+            b'u' => self.state.totals.unseen = in32,
+            b'n' => self.state.totals.ticks = in32,
+            b'a' => self.given.tick = in32,
+            b'v' => self.given.volts = in8,
+            b'd' => self.given.temps = in8,
+            b'p' => self.given.cells = in8,
+            b'q' => self.given.idle = in16,
+            b'f' => self.given.length = in8,
+            _ => {}
+        }
     }
-    lent
-}
 
-fn with_number(mut numbers: Numbers, word: Word) -> Numbers {
-    let k = (word.field % 32) as usize;
-    numbers.of[k] = word.value;
-    numbers
-}
-
-// A number below 0 comes as 64 bits.
-fn signed(v: u64) -> i32 {
-    if v < 2147483648 {
-        return v as i32;
-    }
-    !(((18446744073709551615 - v) % 2147483648) as i32)
-}
-
-fn changed(mut setting: Setting, word: Word) -> Setting {
-    let field = word.field;
-    match field {
-        b't' => setting.threshold = signed(word.value),
-        b'r' => setting.recovery = signed(word.value),
-        b's' => setting.time = (word.value % 256) as u8,
-        _ => {}
-    }
-    setting
-}
-
-fn with_setting(mut settings: Settings, word: Word) -> Settings {
-    let i = word.place % 16;
-    settings.of[i] = changed(settings.of[i], word);
-    settings
-}
-
-// The case with the field that a word gives.
-pub(crate) fn with_field(case: Case, word: Word) -> Case {
-    Case {
-        states: with_word(case.states, word),
-        settings: with_setting(case.settings, word),
-        lent: with_byte(case.lent, word),
-        numbers: with_number(case.numbers, word),
-    }
-}
-
-fn number(numbers: Numbers, letter: u8) -> u64 {
-    let k = (letter % 32) as usize;
-    numbers.of[k]
-}
-
-pub(crate) fn number8(numbers: Numbers, letter: u8) -> u8 {
-    (number(numbers, letter) % 256) as u8
-}
-
-pub(crate) fn number16(numbers: Numbers, letter: u8) -> u16 {
-    (number(numbers, letter) % 65536) as u16
-}
-
-pub(crate) fn number32(numbers: Numbers, letter: u8) -> u32 {
-    (number(numbers, letter) % 4294967296) as u32
-}
-
-fn totals_of(numbers: Numbers) -> Totals {
-    Totals {
-        charge_in: number(numbers, b'g'),
-        charge_out: number(numbers, b'l'),
-        unseen: number32(numbers, b'u'),
-        ticks: number32(numbers, b'n'),
-    }
-}
-
-pub(crate) fn state_of(case: Case) -> Live {
-    let numbers = case.numbers;
-    let settings = case.settings;
-    let states = case.states;
-    Live {
-        cells: number8(numbers, b'c'),
-        idle: number16(numbers, b'i'),
-        settings,
-        states,
-        totals: totals_of(numbers),
+    // Sets the field that a word gives.
+    pub(crate) fn set(&mut self, word: Word) {
+        self.set_at(word.field, word.place, word.value);
+        self.set_number(word.field, word.value);
     }
 }

@@ -5,39 +5,42 @@
 mod answers;
 mod calls;
 mod case;
-mod same;
 mod words;
 
-use answers::put;
 use calls::end_line;
-use case::{no_case, state_of, with_field};
+use case::Case;
 use std::io;
-use words::{no_word, with_char};
+use words::Word;
 
+// Gives a case the fields of a line, and answers the line's last word.
+fn read_words(case: &mut Case, line: &[u8]) -> Word {
+    let mut word = Word::default();
+    for c in line {
+        if *c <= b' ' {
+            case.set(word);
+        }
+        word.add(*c);
+    }
+    case.set(word);
+    word
+}
+
+// A last line that has no end is written again, and calls nothing.
 fn run(rt: &impl Print, text: &[u8]) -> io::Result<()> {
-    let mut kept = no_case();
-    let mut case = no_case();
-    let mut word = no_word();
-    let mut i: usize = 0;
-    while i < text.len() {
-        let c = text[i];
-        if c <= b' ' {
-            case = with_field(case, word);
+    let mut kept = Case::new();
+    let mut case = kept;
+    for line in text.split_inclusive(|c| *c == b'\n') {
+        let Some(words) = line.strip_suffix(b"\n") else {
+            return rt.write_all(line);
+        };
+        rt.write_all(words)?;
+        let word = read_words(&mut case, words);
+        end_line(rt, word.letter, &case, &kept)?;
+        match word.letter {
+            b'k' => kept = case,
+            b'#' => case = kept,
+            _ => {}
         }
-        if c == b'\n' {
-            end_line(rt, word.letter, state_of(case), case, kept)?;
-            if word.letter == b'k' {
-                kept = case;
-            }
-            if word.letter == b'#' {
-                case = kept;
-            }
-            word = no_word();
-        } else {
-            put(rt, c)?;
-            word = with_char(word, c);
-        }
-        i += 1;
     }
     Ok(())
 }

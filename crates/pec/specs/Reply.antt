@@ -1,23 +1,15 @@
 -- Paper 01, 'Replies': the six bytes 16h, command, 17h, low, high, PEC, and what the check answers of a reply.
 use Rattle.std.specs.Prelude.{ℕ, ◌/◌, ◌%◌, cond, ◌&&◌, List, [], ◌∷◌, ◌++◌, eqb, length, get_or, take}
-use Rattle.refusals.specs.Refusals.{Answer, answer, refused, refusal}
+use Rattle.refusals.specs.Refusals.{Answer, answer, refused}
 use Rattle.pec.specs.Code.{pec_of}
-use Rattle.pec.specs.declared.Sealed.{Sealed}
-use Rattle.pec.specs.declared.Sealed.TheVariants as seals
 use Rattle.pec.specs.declared.Checked.{Checked}
-use Rattle.pec.specs.declared.Checked.TheVariants.{Intact, WrongAddress, WrongCode, Refused}
+use Rattle.pec.specs.declared.Checked.TheVariants.{Intact, WrongAddress, WrongCode}
 
--- What `seal` answers, in the paper's numbers.
-abbrev pub answer_of_seal : Sealed → Answer (Unit {0})
-answer_of_seal seals.Written = answer tt
-answer_of_seal (seals.Refused why) = refusal why
-
--- What `check` answers, in the paper's numbers: the verdict, or a refusal.
-abbrev pub answer_of_check : Checked → Answer ℕ
-answer_of_check Intact = answer 0
-answer_of_check WrongAddress = answer 1
-answer_of_check WrongCode = answer 2
-answer_of_check (Refused why) = refusal why
+-- The verdict that the check of a reply gives, as a number.
+abbrev pub number_of : Checked → ℕ
+number_of Intact = 0
+number_of WrongAddress = 1
+number_of WrongCode = 2
 
 -- The bytes of a reply before its code.
 abbrev pub body : ℕ → ℕ → List ℕ

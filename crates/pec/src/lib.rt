@@ -3,7 +3,8 @@
 
 ghost use Rattle.std.specs.Prelude.{◌≡◌};
 ghost use Rattle.pec.specs.Code.{pec_of};
-ghost use Rattle.pec.specs.Reply.{answer_of_seal, answer_of_check, seal_answer, sealed, check_answer};
+ghost use Rattle.refusals.specs.Refusals.{answer_of, answer_as};
+ghost use Rattle.pec.specs.Reply.{number_of, seal_answer, sealed, check_answer};
 
 mod table;
 
@@ -13,64 +14,63 @@ use refusals::Refusal;
 pub fn pec(message: &[u8]) -> u8
     ensures { result ≡ pec_of message.now }
 {
-    let mut code: u8 = 0;
-    let mut i = 0;
-    while i < message.len() {
-        let byte = message[i];
-        code = table::with_byte(code, byte);
-        i += 1;
+    let mut code = 0;
+    for byte in message {
+        code = table::with_byte(code, *byte);
     }
     code
 }
 
-#[derive(Clone, Copy)]
-pub enum Sealed {
-    Written,
-    Refused(Refusal),
-}
-
 // Writes the six bytes of a read-word reply: address, command, address, low, high, PEC.
-pub fn seal(command: u8, word: u16, buffer: &mut [u8]) -> Sealed
-    ensures answer { answer_of_seal result ≡ seal_answer buffer.old }
+#[tactic(auto, unfolding(crate::specs::Reply::sealed))]
+pub fn seal(command: u8, word: u16, buffer: &mut [u8]) -> Result<(), Refusal>
+    ensures answer { answer_of result ≡ seal_answer buffer.old }
     ensures bytes { buffer.new ≡ sealed command word buffer.old }
 {
     if buffer.len() != 6 {
-        return Sealed::Refused(Refusal::BufferLength);
+        return Err(Refusal::BufferLength);
     }
-    buffer[0] = 0x16;
-    buffer[1] = command;
-    buffer[2] = 0x17;
-    buffer[3] = (word % 256) as u8;
-    buffer[4] = (word / 256) as u8;
-    let code = pec(&buffer[..5]);
-    buffer[5] = code;
-    Sealed::Written
+    let [low, high] = word.to_le_bytes();
+    let body = [0x16, command, 0x17, low, high];
+    buffer[..5].copy_from_slice(&body);
+    buffer[5] = pec(&body);
+    Ok(())
 }
 
-#[derive(Clone, Copy)]
+// What the check of a reply finds.
+#[derive(Clone, Copy, Debug, PartialEq, Eq)]
 pub enum Checked {
     Intact,
     WrongAddress,
     WrongCode,
-    Refused(Refusal),
+}
+
+impl Checked {
+    // Paper 01's number of the verdict, 0 where there is none yet.
+    pub fn number(self) -> u8
+        ensures { result ≡ number_of self }
+    {
+        match self {
+            Checked::Intact => 0,
+            Checked::WrongAddress => 1,
+            Checked::WrongCode => 2,
+        }
+    }
 }
 
 // Whether six bytes are a read-word reply of the pack with the right packet error code.
-pub fn check(reply: &[u8]) -> Checked
-    ensures { answer_of_check result ≡ check_answer reply.now }
+#[tactic(auto, unfolding(crate::specs::Reply::check_verdict))]
+pub fn check(reply: &[u8]) -> Result<Checked, Refusal>
+    ensures { answer_as number_of result ≡ check_answer reply.now }
 {
     if reply.len() != 6 {
-        return Checked::Refused(Refusal::BufferLength);
+        return Err(Refusal::BufferLength);
     }
-    if reply[0] != 0x16 {
-        return Checked::WrongAddress;
+    if reply[0] != 0x16 || reply[2] != 0x17 {
+        return Ok(Checked::WrongAddress);
     }
-    if reply[2] != 0x17 {
-        return Checked::WrongAddress;
+    if pec(&reply[..5]) != reply[5] {
+        return Ok(Checked::WrongCode);
     }
-    let code = pec(&reply[..5]);
-    if code != reply[5] {
-        return Checked::WrongCode;
-    }
-    Checked::Intact
+    Ok(Checked::Intact)
 }

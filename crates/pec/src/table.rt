@@ -25,7 +25,7 @@ const TABLE: [u8; 256] = [
 fn entry(byte: u8) -> u8
     ensures { result ≡ pec_of (byte ∷ []) }
 {
-    TABLE[byte as usize]
+    TABLE[usize::from(byte)]
 }
 
 // The code after one more byte of the message.

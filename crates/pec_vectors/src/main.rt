@@ -1,22 +1,15 @@
 // Reads messages, a line of hex digits each, and writes the packet error code of each, a line of two hex digits.
 #![tactic(auto)]
 
+ghost use Rattle.std.specs.Prelude.{◌<◌};
+
+use arrayvec::ArrayVec;
 use std::io;
 
-#[derive(Clone, Copy)]
-struct Line {
-    bytes: [u8; 64],
-    digits: usize,
-}
-
-fn empty() -> Line {
-    Line {
-        bytes: [0; 64],
-        digits: 0,
-    }
-}
-
-fn value_of(digit: u8) -> u8 {
+// By hand, not by `to_digit`: any other character counts as 0, and so does a capital letter.
+fn value_of(digit: u8) -> u8
+    ensures { result < 16 }
+{
     match digit {
         b'0'..=b'9' => digit - b'0',
         b'a'..=b'f' => digit - b'a' + 10,
@@ -24,39 +17,25 @@ fn value_of(digit: u8) -> u8 {
     }
 }
 
-// The line with one more digit, or as it was where it is full.
-fn with_digit(mut line: Line, digit: u8) -> Line {
-    let at = line.digits / 2;
-    if 64 <= at {
-        return line;
+// Of a message the first 64 bytes count, and no half byte.
+fn answer(rt: &impl Print, digits: &[u8]) -> io::Result<()> {
+    let mut message: ArrayVec<u8, 64> = ArrayVec::new();
+    for pair in digits.chunks_exact(2) {
+        let byte = value_of(pair[0]) * 16 + value_of(pair[1]);
+        if message.try_push(byte).is_err() {
+            break;
+        }
     }
-    let byte = line.bytes[at];
-    line.bytes[at] = byte % 16 * 16 + digit % 16;
-    line.digits = at * 2 + 1 + line.digits % 2;
-    line
-}
-
-fn answer(rt: &impl Print, bytes: [u8; 64], n: usize) -> io::Result<()> {
-    if 64 < n {
-        return Ok(());
-    }
-    let code = pec::pec(&bytes[..n]);
+    let code = pec::pec(&message);
     println!(rt; "{code:02x}")
 }
 
+// A last line that has no end is not answered.
 fn answer_lines(rt: &impl Print, text: &[u8]) -> io::Result<()> {
-    let mut line = empty();
-    let mut i = 0;
-    while i < text.len() {
-        let c = text[i];
-        if c == b'\n' {
-            let bytes = line.bytes;
-            answer(rt, bytes, line.digits / 2)?;
-            line = empty();
-        } else {
-            line = with_digit(line, value_of(c));
+    for line in text.split_inclusive(|c| *c == b'\n') {
+        if let Some(digits) = line.strip_suffix(b"\n") {
+            answer(rt, digits)?;
         }
-        i += 1;
     }
     Ok(())
 }

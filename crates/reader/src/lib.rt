@@ -3,9 +3,11 @@
 #![tactic(auto)]
 
 ghost use Rattle.std.specs.Prelude.{◌≡◌};
-ghost use Rattle.trace.specs.Next.{next_answer, answer_of_next, place_after};
+ghost use Rattle.refusals.specs.Refusals.{answer_of};
+ghost use Rattle.trace.specs.Next.{next_answer, place_after};
 
-use trace::{Next, Step};
+use refusals::Refusal;
+use trace::{Record, Step};
 
 #[derive(Clone, Copy)]
 pub struct Reader<'a> {
@@ -21,8 +23,8 @@ pub fn open<'a>(trace: &'a [u8]) -> Reader<'a>
 }
 
 // Hands out what stands next, and moves on to the place after it.
-pub fn next<'s, 'a>(r: &'s mut Reader<'a>) -> Next
-    ensures { (answer_of_next result ≡ next_answer r.old.trace.now r.old.at) × (r.new.trace ≡ r.old.trace) × (r.new.at ≡ place_after (next_answer r.old.trace.now r.old.at) r.old.at) }
+pub fn next<'s, 'a>(r: &'s mut Reader<'a>) -> Result<Option<Record>, Refusal>
+    ensures { (answer_of result ≡ next_answer r.old.trace.now r.old.at) × (r.new.trace ≡ r.old.trace) × (r.new.at ≡ place_after (next_answer r.old.trace.now r.old.at) r.old.at) }
 {
     let step = trace::advance(r.trace, r.at);
     r.at = step.at;
@@ -31,7 +33,7 @@ pub fn next<'s, 'a>(r: &'s mut Reader<'a>) -> Next
 
 // What stands next from a place of a trace on, and the place after it: one step of a reader that stands there.
 pub fn read_from(trace: &[u8], at: usize) -> Step
-    ensures { (answer_of_next result.next ≡ next_answer trace.now at) × (result.at ≡ place_after (next_answer trace.now at) at) }
+    ensures { (answer_of result.next ≡ next_answer trace.now at) × (result.at ≡ place_after (next_answer trace.now at) at) }
 {
     let mut r = Reader { trace, at };
     let next = next(&mut r);

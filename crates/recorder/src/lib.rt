@@ -3,10 +3,12 @@
 #![tactic(auto)]
 
 ghost use Rattle.std.specs.Prelude.{◌≡◌};
+ghost use Rattle.refusals.specs.Refusals.{answer_of, answer_as};
 ghost use Rattle.rules.specs.Samples.{sample_of};
-ghost use Rattle.recording.specs.Recorder.{answer_of_offered, offered, offer_answer, recorder_after_offer, store_after_offer, answer_of_drained, drained, drain_answer, recorder_after_drain, buffer_after_drain};
+ghost use Rattle.recording.specs.Recorder.{number_of, offered, offer_answer, recorder_after_offer, store_after_offer, drained, drain_answer, recorder_after_drain, buffer_after_drain};
 
-use recording::{DrainStep, Drained, OfferStep, Offered, Recorder};
+use recording::{Offered, Recorder};
+use refusals::Refusal;
 
 // Takes the sample of a tick.
 pub fn offer(
@@ -17,8 +19,8 @@ pub fn offer(
     board: i16,
     volts: &[u16],
     temps: &[i16],
-) -> Offered
-    ensures answer { answer_of_offered result ≡ offer_answer (offered recorder.old store.old tick (sample_of current board volts.now temps.now)) }
+) -> Result<Offered, Refusal>
+    ensures answer { answer_as number_of result ≡ offer_answer (offered recorder.old store.old tick (sample_of current board volts.now temps.now)) }
     ensures recorder { recorder.new ≡ recorder_after_offer recorder.old (offered recorder.old store.old tick (sample_of current board volts.now temps.now)) }
     ensures store { store.new ≡ store_after_offer store.old (offered recorder.old store.old tick (sample_of current board volts.now temps.now)) }
 {
@@ -28,48 +30,12 @@ pub fn offer(
 }
 
 // Writes the oldest samples to a buffer, as many whole ones as it holds.
-pub fn drain(recorder: &mut Recorder, store: &[u8], buffer: &mut [u8]) -> Drained
-    ensures answer { answer_of_drained result ≡ drain_answer (drained recorder.old store.now buffer.old) }
+pub fn drain(recorder: &mut Recorder, store: &[u8], buffer: &mut [u8]) -> Result<u32, Refusal>
+    ensures answer { answer_of result ≡ drain_answer (drained recorder.old store.now buffer.old) }
     ensures recorder { recorder.new ≡ recorder_after_drain recorder.old (drained recorder.old store.now buffer.old) }
     ensures buffer { buffer.new ≡ buffer_after_drain buffer.old (drained recorder.old store.now buffer.old) }
 {
     let step = recording::drain(*recorder, store, buffer);
     *recorder = step.recorder;
     step.answer
-}
-
-// `recording::offer`, by lending a local copy of the record to `offer`.
-pub fn offer_from(
-    recorder: Recorder,
-    store: &mut [u8],
-    tick: u32,
-    current: i16,
-    board: i16,
-    volts: &[u16],
-    temps: &[i16],
-) -> OfferStep
-    ensures answer { answer_of_offered result.answer ≡ offer_answer (offered recorder store.old tick (sample_of current board volts.now temps.now)) }
-    ensures recorder { result.recorder ≡ recorder_after_offer recorder (offered recorder store.old tick (sample_of current board volts.now temps.now)) }
-    ensures store { store.new ≡ store_after_offer store.old (offered recorder store.old tick (sample_of current board volts.now temps.now)) }
-{
-    let mut lent = recorder;
-    let answer = offer(&mut lent, store, tick, current, board, volts, temps);
-    OfferStep {
-        answer,
-        recorder: lent,
-    }
-}
-
-// `recording::drain` in the same way.
-pub fn drain_from(recorder: Recorder, store: &[u8], buffer: &mut [u8]) -> DrainStep
-    ensures answer { answer_of_drained result.answer ≡ drain_answer (drained recorder store.now buffer.old) }
-    ensures recorder { result.recorder ≡ recorder_after_drain recorder (drained recorder store.now buffer.old) }
-    ensures buffer { buffer.new ≡ buffer_after_drain buffer.old (drained recorder store.now buffer.old) }
-{
-    let mut lent = recorder;
-    let answer = drain(&mut lent, store, buffer);
-    DrainStep {
-        answer,
-        recorder: lent,
-    }
 }

@@ -1,5 +1,5 @@
 -- Paper 01, 'Refusal numbers', and 17 of paper 02, item 1: the number and the place of each reason, and what a call answers in the paper's numbers.
-use Rattle.std.specs.Prelude.{ℕ, Bool, true, false}
+use Rattle.std.specs.Prelude.{ℕ, Bool, true, false, Result, Ok, Err}
 use Rattle.refusals.specs.declared.Refusal.{Refusal}
 use Rattle.refusals.specs.declared.Refusal.TheVariants.{TooShort, Version, CellCount, IdleCurrent, PastEnd, RuleCount, Limits, Hole, Coverage, ReplyTick, LeftOver, ReportLength, VerdictLength, InputLength, BufferLength, State, HoleCount}
 
@@ -51,6 +51,16 @@ pub data Answer (A : Type 0) : Type 0 where
 -- The answer of a call that refuses.
 abbrev pub refusal : {A : Type 0} → Refusal → Answer A
 refusal r = refused (number_of r) (place_of r)
+
+-- What a call answers that hands out a value or refuses.
+abbrev pub answer_of : {A : Type 0} → Result A Refusal → Answer A
+answer_of (Ok a) = answer a
+answer_of (Err why) = refusal why
+
+-- The same, with the value in the paper's terms.
+abbrev pub answer_as : {A B : Type 0} → (A → B) → Result A Refusal → Answer B
+answer_as f (Ok a) = answer (f a)
+answer_as f (Err why) = refusal why
 
 -- What comes after an answer; a refusal ends it.
 abbrev pub and_then : {A B : Type 0} → Answer A → (A → Answer B) → Answer B

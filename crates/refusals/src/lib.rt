@@ -4,7 +4,10 @@
 ghost use Rattle.std.specs.Prelude.{◌≡◌};
 ghost use Rattle.refusals.specs.Refusals.{number_of, place_of};
 
-#[derive(Clone, Copy)]
+use std::error::Error;
+use std::fmt;
+
+#[derive(Clone, Copy, Debug, PartialEq, Eq)]
 pub enum Refusal {
     TooShort,
     Version,
@@ -25,50 +28,50 @@ pub enum Refusal {
     HoleCount,
 }
 
-pub fn number(r: Refusal) -> u8
-    ensures { result ≡ number_of r }
-{
-    match r {
-        Refusal::TooShort => 1,
-        Refusal::Version => 2,
-        Refusal::CellCount => 3,
-        Refusal::IdleCurrent => 4,
-        Refusal::PastEnd => 5,
-        Refusal::RuleCount => 6,
-        Refusal::Limits { rule: _ } => 7,
-        Refusal::Hole { place: _ } => 8,
-        Refusal::Coverage { tick: _ } => 9,
-        Refusal::ReplyTick { reply: _ } => 10,
-        Refusal::LeftOver => 11,
-        Refusal::ReportLength => 12,
-        Refusal::VerdictLength => 13,
-        Refusal::InputLength => 14,
-        Refusal::BufferLength => 15,
-        Refusal::State => 16,
-        Refusal::HoleCount => 17,
+impl Refusal {
+    pub fn number(self) -> u8
+        ensures { result ≡ number_of self }
+    {
+        match self {
+            Refusal::TooShort => 1,
+            Refusal::Version => 2,
+            Refusal::CellCount => 3,
+            Refusal::IdleCurrent => 4,
+            Refusal::PastEnd => 5,
+            Refusal::RuleCount => 6,
+            Refusal::Limits { .. } => 7,
+            Refusal::Hole { .. } => 8,
+            Refusal::Coverage { .. } => 9,
+            Refusal::ReplyTick { .. } => 10,
+            Refusal::LeftOver => 11,
+            Refusal::ReportLength => 12,
+            Refusal::VerdictLength => 13,
+            Refusal::InputLength => 14,
+            Refusal::BufferLength => 15,
+            Refusal::State => 16,
+            Refusal::HoleCount => 17,
+        }
+    }
+
+    pub fn place(self) -> u32
+        ensures { result ≡ place_of self }
+    {
+        match self {
+            Refusal::Limits { rule } => rule,
+            Refusal::Hole { place } => place,
+            Refusal::Coverage { tick } => tick,
+            Refusal::ReplyTick { reply } => reply,
+            _ => 0,
+        }
     }
 }
 
-pub fn place(r: Refusal) -> u32
-    ensures { result ≡ place_of r }
-{
-    match r {
-        Refusal::Limits { rule } => rule,
-        Refusal::Hole { place } => place,
-        Refusal::Coverage { tick } => tick,
-        Refusal::ReplyTick { reply } => reply,
-        Refusal::TooShort => 0,
-        Refusal::Version => 0,
-        Refusal::CellCount => 0,
-        Refusal::IdleCurrent => 0,
-        Refusal::PastEnd => 0,
-        Refusal::RuleCount => 0,
-        Refusal::LeftOver => 0,
-        Refusal::ReportLength => 0,
-        Refusal::VerdictLength => 0,
-        Refusal::InputLength => 0,
-        Refusal::BufferLength => 0,
-        Refusal::State => 0,
-        Refusal::HoleCount => 0,
+// As programs write it.
+impl fmt::Display for Refusal {
+    fn fmt<W: fmt::Write>(&self, f: &mut fmt::Formatter<W>) -> fmt::Result {
+        let why = *self;
+        write!(f, "refused {} at {}", why.number(), why.place())
     }
 }
+
+impl Error for Refusal {}

@@ -1,30 +1,18 @@
--- The whole report, and what becomes of a buffer of another length.
+-- The whole report.
 use Prim.Native.Nat.{ℕ}
 use mathlib.Core.Path.{◌≡◌, sym, ◌∙◌}
 use mathlib.Core.List.{List}
 use native.Mathlib.Omega.{arith}
 use lib.ListN.{length}
 use lib.Seq.{take_all}
-use borrow.Author.Tests.{eq-eqb, ne_eqb}
-use Rattle.refusals.specs.Refusals.{answer, refused}
+use borrow.Author.Tests.{eq-eqb}
 use Rattle.flags.specs.declared.RuleFlags.{RuleFlags}
 use Rattle.report.specs.declared.FirstTicks.{FirstTicks}
 use Rattle.report.specs.declared.Totals.{Totals}
 use Rattle.report.specs.inner.Bytes.{Put}
-use Rattle.report.specs.Layout.{report_bytes, report_answer, reported}
-
--- A buffer of another length is refused, and keeps its bytes.
-pub report_refused : (s : List ℕ) → (length s ≡ 187 → ⊥) → refused 12 0 ≡ report_answer s
-report_refused s h = rw (ne_eqb (length s) 187 h)
-
-pub report_kept : (fs : List RuleFlags) (ts : List FirstTicks) (t : Totals) (s : List ℕ) → (length s ≡ 187 → ⊥) → s ≡ reported fs ts t s
-unfolding reported
-report_kept fs ts t s h = rw (ne_eqb (length s) 187 h)
+use Rattle.report.specs.Layout.{report_bytes, reported}
 
 -- A buffer of 187 bytes has the report.
-pub report_answered : (s : List ℕ) → length s ≡ 187 → answer tt ≡ report_answer s
-report_answered s h = rw (eq-eqb (length s) 187 h)
-
 pub report_whole : (fs : List RuleFlags) (ts : List FirstTicks) (t : Totals) (s : List ℕ) → length s ≡ 187 → reported fs ts t s ≡ report_bytes fs ts t
 unfolding reported
 report_whole fs ts t s h = rw (eq-eqb (length s) 187 h)

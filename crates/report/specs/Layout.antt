@@ -1,6 +1,6 @@
 -- Paper 01, 'Three-way outputs': the report of 187 bytes.
 use Rattle.std.specs.Prelude.{ℕ, cond, List, [], ◌∷◌, ◌++◌, eqb, length}
-use Rattle.refusals.specs.Refusals.{Answer, answer, refused, refusal}
+use Rattle.refusals.specs.Refusals.{Answer, answer, refused}
 use Rattle.bytes_le.specs.Writing.{bytes_of}
 use Rattle.rules.specs.Table.{rows}
 use Rattle.flags.specs.declared.RuleFlags.{RuleFlags}
@@ -10,8 +10,6 @@ use Rattle.flags.specs.Flags.{number_of}
 use Rattle.flags.specs.Outputs.{output_of, drivers, statuses_of}
 use Rattle.report.specs.declared.FirstTicks.{FirstTicks}
 use Rattle.report.specs.declared.Totals.{Totals}
-use Rattle.report.specs.declared.Reported.{Reported}
-use Rattle.report.specs.declared.Reported.TheVariants.{Written, Refused}
 
 -- Per rule: alert, status, the first tick at which status is held or unknown, the first tick at which it is held.
 abbrev pub rule_bytes : RuleFlags → FirstTicks → List ℕ
@@ -38,11 +36,6 @@ total_bytes t = bytes_of 8 t.charge_in ++ bytes_of 8 t.charge_out ++ bytes_of 4 
 -- The whole report.
 abbrev pub report_bytes : List RuleFlags → List FirstTicks → Totals → List ℕ
 report_bytes fs ts t = rules_bytes fs ts ++ output_bytes fs ++ total_bytes t
-
--- What `write_report` answers, in the paper's numbers.
-abbrev pub answer_of_report : Reported → Answer (Unit {0})
-answer_of_report Written = answer tt
-answer_of_report (Refused why) = refusal why
 
 -- Refusal 12 for a buffer that is not 187 bytes long.
 abbrev pub report_answer : List ℕ → Answer (Unit {0})

@@ -13,17 +13,15 @@ fn put_flag(buffer: &mut [u8], at: usize, f: Flag)
     requires { at < length buffer.old }
     ensures { Put buffer.old buffer.new at (at + 1) (number_of f ∷ []) }
 {
-    buffer[at] = flags::number(f);
+    buffer[at] = f.number();
 }
 
 fn put_rule(buffer: &mut [u8], at: usize, f: RuleFlags, t: FirstTicks)
     requires { at + 10 ≤ length buffer.old }
     ensures { Put buffer.old buffer.new at (at + 10) (rule_bytes f t) }
 {
-    let alert = f.alert;
-    let status = f.status;
-    put_flag(buffer, at, alert);
-    put_flag(buffer, at + 1, status);
+    put_flag(buffer, at, f.alert);
+    put_flag(buffer, at + 1, f.status);
     put(buffer, at + 2, 4, t.possible as u64);
     put(buffer, at + 6, 4, t.held as u64);
 }
@@ -33,12 +31,8 @@ pub(crate) fn put_rules(buffer: &mut [u8], flags: Flags, firsts: AllFirstTicks)
     requires { 160 ≤ length buffer.old }
     ensures { Put buffer.old buffer.new 0 160 (rules_bytes flags.of firsts.of) }
 {
-    let mut i: usize = 0;
-    while i < 16 {
-        let f = flags.of[i];
-        let t = firsts.of[i];
-        put_rule(buffer, i * 10, f, t);
-        i += 1;
+    for i in 0..16 {
+        put_rule(buffer, i * 10, flags.of[i], firsts.of[i]);
     }
 }
 

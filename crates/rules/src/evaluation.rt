@@ -10,11 +10,7 @@ use crate::{Quantity, Readings, Row, Setting, Side};
 pub fn difference(highest: u16, lowest: u16) -> u16
     ensures { result ≡ highest - lowest }
 {
-    if highest < lowest {
-        0
-    } else {
-        highest - lowest
-    }
+    highest.saturating_sub(lowest)
 }
 
 fn value_of(quantity: Quantity, r: Readings) -> i64
@@ -83,12 +79,6 @@ fn is_before(side: Side, v: i64, limit: i64) -> bool
     }
 }
 
-pub fn and(a: bool, b: bool) -> bool
-    ensures { result ≡ (a && b) }
-{
-    if a { b } else { false }
-}
-
 // Whether an evaluation of a rule meets its threshold.
 pub fn meets_threshold(row: Row, idle: u16, setting: Setting, r: Readings) -> bool
     ensures { result ≡ trips idle row setting r }
@@ -96,9 +86,7 @@ pub fn meets_threshold(row: Row, idle: u16, setting: Setting, r: Readings) -> bo
     let quantity = row.quantity;
     let side = row.side;
     let v = value_of(quantity, r);
-    let counts = qualifies(idle, quantity, r);
-    let met = is_beyond(side, v, setting.threshold as i64);
-    and(counts, met)
+    qualifies(idle, quantity, r) && is_beyond(side, v, setting.threshold as i64)
 }
 
 // Whether an evaluation of a rule meets its recovery.
@@ -108,15 +96,14 @@ pub fn meets_recovery(row: Row, setting: Setting, r: Readings) -> bool
     let quantity = row.quantity;
     let side = row.side;
     let v = value_of(quantity, r);
-    let back = is_before(side, v, setting.recovery as i64);
-    and(row.recovers, back)
+    row.recovers && is_before(side, v, setting.recovery as i64)
 }
 
 // Whether a rule is evaluated at a tick.
 pub fn evaluated_at(row: Row, tick: u32) -> bool
     ensures { result ≡ evaluated row tick }
 {
-    if row.even { tick % 2 == 0 } else { true }
+    !row.even || tick % 2 == 0
 }
 
 // How often a rule is evaluated from first to last, both included; 0 where last is before first.

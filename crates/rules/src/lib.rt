@@ -9,12 +9,12 @@ ghost use Rattle.rules.specs.Table.{rows, row_at};
 mod evaluation;
 
 pub use evaluation::{
-    and, charges, difference, discharges, evaluated_at, evaluations_in, meets_recovery,
-    meets_threshold, step_state, top_of,
+    charges, difference, discharges, evaluated_at, evaluations_in, meets_recovery, meets_threshold,
+    step_state, top_of,
 };
 
 // What a rule looks at. A quantity 'charging' or 'discharging' counts towards the threshold only while the pack does so.
-#[derive(Clone, Copy)]
+#[derive(Clone, Copy, Debug, PartialEq, Eq)]
 pub enum Quantity {
     HighestCell,
     LowestCell,
@@ -27,7 +27,7 @@ pub enum Quantity {
     CellDifference,
 }
 
-#[derive(Clone, Copy)]
+#[derive(Clone, Copy, Debug, PartialEq, Eq)]
 pub enum Side {
     High,
     Low,
@@ -35,7 +35,7 @@ pub enum Side {
 
 // One row of the table. A rule that does not recover latches and commands the fuse; `charge` and `discharge` say which
 // MOSFETs it opens, and `bits` which bits of BatteryStatus it sets.
-#[derive(Clone, Copy)]
+#[derive(Clone, Copy, Debug, PartialEq, Eq)]
 pub struct Row {
     pub quantity: Quantity,
     pub side: Side,
@@ -46,7 +46,7 @@ pub struct Row {
     pub bits: u16,
 }
 
-#[derive(Clone, Copy)]
+#[derive(Clone, Copy, Debug, PartialEq, Eq)]
 pub struct Table {
     pub of: [Row; 16],
 }
@@ -227,8 +227,7 @@ pub fn row_at(i: usize) -> Row
     ensures { result ≡ row_at i }
 {
     if i < 16 {
-        let table = all_rows();
-        return table.of[i];
+        return ROWS[i];
     }
     Row {
         quantity: Quantity::Board,
@@ -242,14 +241,23 @@ pub fn row_at(i: usize) -> Row
 }
 
 // A rule's numbers. Time 0 switches it off.
-#[derive(Clone, Copy)]
+#[derive(Clone, Copy, Debug, PartialEq, Eq)]
 pub struct Setting {
     pub threshold: i32,
     pub recovery: i32,
     pub time: u8,
 }
 
-#[derive(Clone, Copy)]
+impl Setting {
+    // A rule that is switched off.
+    pub const OFF: Setting = Setting {
+        threshold: 0,
+        recovery: 0,
+        time: 0,
+    };
+}
+
+#[derive(Clone, Copy, Debug, PartialEq, Eq)]
 pub struct Settings {
     pub of: [Setting; 16],
 }
@@ -258,11 +266,11 @@ pub struct Settings {
 pub fn is_cell_count(cells: u8) -> bool
     ensures { result ≡ cell_count cells }
 {
-    and(3 <= cells, cells <= 12)
+    3 <= cells && cells <= 12
 }
 
 // What the rules read of a sample.
-#[derive(Clone, Copy)]
+#[derive(Clone, Copy, Debug, PartialEq, Eq)]
 pub struct Readings {
     pub current: i16,
     pub board: i16,

@@ -1,3 +1,2 @@
-pub mod CellsIn
 pub mod Found
 pub mod Answers

@@ -1,27 +1,27 @@
 -- A rule at state 0 alone whose threshold is not met stays there.
-use Prim.Native.Nat.{ℕ, zero, suc, ◌+◌, ◌*◌, ◌/◌, ◌%◌, ◌≤◌, ◌<◌}
+use Prim.Native.Nat.{ℕ, zero, suc, ◌≤◌, ◌<◌}
 use mathlib.Core.Path.{◌≡◌, refl, ap, sym, ◌∙◌, subst}
 use mathlib.Core.List.{List, [], ◌∷◌}
-use mathlib.Core.Bool.{Bool, true, false, not, cond, ◌&&◌}
+use mathlib.Core.Bool.{Bool, true, false}
 use mathlib.Core.Logic.{⊎_elim}
 use native.Mathlib.Omega.{arith}
 use lib.Dec.{T, eqb}
-use lib.ListN.{get_or, length, get_or-eq_default}
+use Rattle.std.specs.Prelude.{nat_eq}
+use Rattle.std.specs.Cmp.Lexicographic.{pointwise, same_text}
+use lib.ListN.{get_or-eq_default}
 use lib.Seq.{ext_get_or}
-use borrow.Author.Tests.{eq-eqb, ne_eqb}
+use borrow.Author.Tests.{ne_eqb}
 use Rattle.lists.specs.Lists.{tabulate}
-use Rattle.lists.proofs.Bools.{bool_ext, below?, equal?, length_tabulate, get_d_tabulate}
+use Rattle.lists.proofs.Bools.{bool_ext, below?, length_tabulate, get_d_tabulate}
 use Rattle.fillings.specs.PossibleStates.{has, Moves, found, next, start}
 use Rattle.fillings.proofs.Next.{next_length, reached, by_restart}
-use Rattle.states.specs.Records.{states_of, word_of, words_of, rule_words, record_with}
-use Rattle.states.specs.inner.Words.{Same}
+use Rattle.states.specs.Records.{states_of, word_of, words_of}
 use Rattle.states.proofs.Packing.{states_words, same_sets}
-use Rattle.states.proofs.RuleWords.{part, record_length, record_at_lem}
 
 -- The words of state 0 alone are 1, 0, 0, 0, 0.
-pub zero_words : (w : List ℕ) (r : Bool) → Same w (1 ∷ 0 ∷ 0 ∷ 0 ∷ 0 ∷ []) r → r ≡ true → w ≡ words_of (start 0)
+pub zero_words : (w : List ℕ) (b : Bool) → b ≡ pointwise nat_eq w (1 ∷ 0 ∷ 0 ∷ 0 ∷ 0 ∷ []) → b ≡ true → w ≡ words_of (start 0)
 unfolding word_of words_of
-zero_words w r s e = s.yes e
+zero_words w b e t = same_text w (1 ∷ 0 ∷ 0 ∷ 0 ∷ 0 ∷ []) (sym t ∙ e)
 
 -- The set of state 0 alone does not depend on the top state, but for its length.
 pub has_start : (m s : ℕ) → has (start m) s ≡ has (start 0) s
@@ -66,26 +66,6 @@ zero_kept w m mv e pos fits up restart =
     ∙ start_words m
     ∙ sym e
 
--- A record in which one rule has the words that it had.
-same_rule : (ws v : List ℕ) (i : ℕ) → length ws ≡ 80 → v ≡ rule_words ws i → record_with (λ j. eqb j i) (λ j. v) ws ≡ ws
-same_rule ws v i l e =
-    ext_get_or 0 (record_with (λ j. eqb j i) (λ j. v) ws) ws (record_length (λ j. eqb j i) (λ j. v) ws ∙ sym l)
-    (λ k g.
-    record_at_lem (λ j. eqb j i) (λ j. v) ws k (omega (arith, record_length (λ j. eqb j i) (λ j. v) ws))
-    ∙ ⊎_elim
-    (λ d.
-    let q : 5 * i + k % 5 ≡ k = omega arith in
-    ap (λ (b : Bool). cond b (get_or v (k % 5) 0) (get_or ws k 0)) (eq-eqb (k / 5) i d)
-    ∙ ap (λ (x : List ℕ). get_or x (k % 5) 0) e
-    ∙ part ws (5 * i) (k % 5) (omega arith)
-    ∙ ap (λ (x : ℕ). get_or ws x 0) q)
-    (λ n. ap (λ (b : Bool). cond b (get_or v (k % 5) 0) (get_or ws k 0)) (ne_eqb (k / 5) i n))
-    (equal? (k / 5) i))
-
--- A rule at 0 alone that does not trip leaves the record as it is.
-pub zero_stays : (ws w : List ℕ) (i m : ℕ) (trip clear alone : Bool) → length ws ≡ 80 → 0 < m → m ≤ 256
-    → (not trip && alone) ≡ true → (alone ≡ true → w ≡ words_of (start 0)) → w ≡ rule_words ws i
-    → ws ≡ record_with (λ j. eqb j i) (λ j. words_of (next m (found trip clear) (states_of (rule_words ws i) m))) ws
-zero_stays ws w i m true clear alone l pos fits e z r = absurd (let n : ◌≡◌ {A = ℕ} 0 1 = cc in omega arith)
-zero_stays ws w i m false clear alone l pos fits e z r =
-    sym (same_rule ws (words_of (next m (found false clear) (states_of (rule_words ws i) m))) i l (zero_kept (rule_words ws i) m (found false clear) (sym r ∙ z e) pos fits refl refl))
+-- A rule at 0 alone that does not trip stays so.
+pub zero_stays : (w : List ℕ) (m : ℕ) (clear : Bool) → 0 < m → m ≤ 256 → w ≡ words_of (start 0) → w ≡ words_of (next m (found false clear) (states_of w m))
+zero_stays w m clear pos fits e = sym (zero_kept w m (found false clear) e pos fits refl refl)

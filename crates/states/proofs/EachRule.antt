@@ -1,6 +1,6 @@
 -- A record whose rules are moved one after the other.
 use Prim.Native.Nat.{ℕ, suc, ◌+◌, ◌*◌, ◌/◌, ◌%◌, ◌≤◌, ◌<◌}
-use mathlib.Core.Path.{◌≡◌, ap, ap₂, sym, ◌∙◌}
+use mathlib.Core.Path.{◌≡◌, refl, ap, ap₂, sym, ◌∙◌}
 use mathlib.Core.List.{List}
 use mathlib.Core.Bool.{Bool, true, false, cond, ◌&&◌, and-true, and-false}
 use mathlib.Core.Logic.{⊎_elim}
@@ -104,16 +104,16 @@ done_end m new ws =
     (λ k l. ap (λ (b : Bool). cond (b && m (k / 5)) (get_or (new (k / 5)) (k % 5) 0) (get_or ws k 0)) (lt-ltb (k / 5) 16 (omega arith)))
 
 -- One rule that stays as it is, and one that moves.
-pub rule_stays : (b : Bool) (new : ℕ → List ℕ) (ws : List ℕ) (i : ℕ) → length ws ≡ 80 → b ≡ false → ws ≡ record_with (λ j. eqb j i && b) new ws
+rule_stays : (b : Bool) (new : ℕ → List ℕ) (ws : List ℕ) (i : ℕ) → length ws ≡ 80 → b ≡ false → ws ≡ record_with (λ j. eqb j i && b) new ws
 rule_stays b new ws i l e =
     sym (record_kept (λ j. eqb j i && b) new ws l (λ j h. ap (λ (x : Bool). eqb j i && x) e ∙ and-false (eqb j i)))
 
-pub rule_moves : (b : Bool) (v w ws out : List ℕ) (i : ℕ) → b ≡ true → out ≡ record_with (λ j. eqb j i) (λ j. v) ws → v ≡ w
-    → out ≡ record_with (λ j. eqb j i && b) (λ j. w) ws
-rule_moves b v w ws out i e o d =
+rule_moves : (b : Bool) (v ws out : List ℕ) (i : ℕ) → b ≡ true → out ≡ record_with (λ j. eqb j i) (λ j. v) ws
+    → out ≡ record_with (λ j. eqb j i && b) (λ j. v) ws
+rule_moves b v ws out i e o =
     o
-    ∙ record_same (λ j. eqb j i) (λ j. eqb j i && b) (λ j. v) (λ j. w) ws ws
-    (λ k l. ap₂ (λ (x : Bool) (u : List ℕ). cond x (get_or u (k % 5) 0) (get_or ws k 0)) (sym (ap (λ (x : Bool). eqb (k / 5) i && x) e ∙ and-true (eqb (k / 5) i))) d)
+    ∙ record_same (λ j. eqb j i) (λ j. eqb j i && b) (λ j. v) (λ j. v) ws ws
+    (λ k l. ap (λ (x : Bool). cond x (get_or v (k % 5) 0) (get_or ws k 0)) (sym (ap (λ (x : Bool). eqb (k / 5) i && x) e ∙ and-true (eqb (k / 5) i))))
 
 -- The loop over the rules: those below i have moved.
 pub record Moving (m : ℕ → Bool) (new : ℕ → List ℕ) (ws₀ ws : List ℕ) (i : ℕ) : Type 0 where
@@ -131,7 +131,7 @@ module _ (m : ℕ → Bool) (new : ℕ → List ℕ) (ws₀ : List ℕ) where
   pub moving_read : (ws : List ℕ) (i : ℕ) → Moving m new ws₀ ws i → i < 16 → rule_words ws i ≡ rule_words ws₀ i
   moving_read ws i g h = ap (λ (x : List ℕ). rule_words x i) g.holds ∙ done_unread i m new ws₀ h g.long
 
-  pub moving_next : (ws out v : List ℕ) (i : ℕ) → Moving m new ws₀ ws i → i < 16 → out ≡ record_with (λ j. eqb j i && m i) (λ j. v) ws → v ≡ new i
+  moving_next : (ws out v : List ℕ) (i : ℕ) → Moving m new ws₀ ws i → i < 16 → out ≡ record_with (λ j. eqb j i && m i) (λ j. v) ws → v ≡ new i
       → Moving m new ws₀ out (i + 1)
   moving_next ws out v i g h o e = record {
     within = omega arith;
@@ -142,6 +142,14 @@ module _ (m : ℕ → Bool) (new : ℕ → List ℕ) (ws₀ : List ℕ) where
         ∙ done_next i m new ws₀
         ∙ ap (λ (x : ℕ). record_with (done x m) new ws₀) (sym (add-one i));
   }
+
+  -- a rule that moves, and one that stays
+  pub moving_moved : (ws out v : List ℕ) (i : ℕ) → Moving m new ws₀ ws i → i < 16 → m i ≡ true → out ≡ record_with (λ j. eqb j i) (λ j. v) ws → v ≡ new i
+      → Moving m new ws₀ out (i + 1)
+  moving_moved ws out v i g h e o d = moving_next ws out v i g h (rule_moves (m i) v ws out i e o) d
+
+  pub moving_stays : (ws out : List ℕ) (i : ℕ) → Moving m new ws₀ ws i → i < 16 → m i ≡ false → out ≡ ws → Moving m new ws₀ out (i + 1)
+  moving_stays ws out i g h e o = moving_next ws out (new i) i g h (o ∙ rule_stays (m i) (λ j. new i) ws i (moving_length ws i g) e) refl
 
   pub moving_end : (ws : List ℕ) (i : ℕ) → Moving m new ws₀ ws i → 16 ≤ i → ws ≡ record_with m new ws₀
   moving_end ws i g h =

@@ -1,23 +1,26 @@
 -- From words to bits: five words a place up, cut off at a bit, and with a bit set.
 use Prim.Native.Nat.{ℕ, zero, suc, ◌+◌, ◌*◌, ◌^◌, ◌/◌, ◌%◌, ◌≤◌, ◌<◌}
 use mathlib.Core.Path.{◌≡◌, refl, ap, ap₂, sym, ◌∙◌, subst}
-use mathlib.Core.List.{List, ◌∷◌}
-use mathlib.Core.Bool.{Bool, true, false, cond, ◌&&◌, ◌||◌, or-false}
+use mathlib.Core.List.{List, [], ◌∷◌}
+use mathlib.Core.Bool.{Bool, true, false, not, cond, ◌&&◌, ◌||◌, and-true, or-false}
 use mathlib.Core.Logic.{⊎_elim}
 use native.Mathlib.Omega.{arith}
 use native.Mathlib.Nat.{eq-or-lt_of_le}
 use native.Mathlib.Numerals.{add-one}
 use lib.ListN.{get_or, length, set, replicate}
 use lib.Dec.{T, ltb, eqb}
-use borrow.Author.Tests.{lt-ltb, le-ltb, eq-eqb, ne_eqb, eqb-true, eqb-false}
-use lib.Seq.{get_or-set_other}
+use borrow.Author.Tests.{lt-ltb, le-ltb, eq-eqb, ne_eqb}
+use lib.Seq.{get_or-set_same, get_or-set_other, ext_get_or}
 use lib.Bits.{bit_or}
+use Rattle.std.specs.Prelude.{nat_eq}
+use Rattle.std.specs.Cmp.Lexicographic.{pointwise, same_text, other_text}
 use Rattle.lists.specs.Lists.{some_below}
-use Rattle.lists.proofs.Bools.{is_true, refuted, below?, equal?, some_intro, some_elim}
+use Rattle.lists.proofs.Bools.{refuted, below?, equal?, some_intro, some_elim}
 use Rattle.lists.proofs.Laying.{Laying, laying_start, laying_next}
-use Rattle.states.specs.Records.{bit, at}
-use Rattle.states.specs.inner.Words.{below_word, Below, Up, Raised, With, with_word}
-use Rattle.states.proofs.Bits.{bit_mod, bit_mod_above, bit_up, bit_up_first, bit_or_lem, bit_pow_same, bit_pow_other, bit_some, bit_zero}
+use Rattle.states.specs.Records.{bit, at, Fit64}
+use Rattle.states.specs.inner.Words.{below_word, Below, Up, Raised, With}
+use Rattle.states.proofs.Bits.{bit_mod, bit_mod_above, bit_up, bit_up_first, bit_or_lem, bit_pow_same, bit_pow_other, bit_zero, one_shifted}
+use Rattle.states.proofs.Packing.{same_words}
 
 -- The words below i are changed by a function of their place; the others are as they came.
 pub record Changed (f : ℕ → ℕ → ℕ) (w₀ w : List ℕ) (i : ℕ) : Type 0 where
@@ -118,27 +121,36 @@ below_bits w r t e = record { bits = λ p h. ap (λ (x : ℕ). bit x (p % 64)) (
         (λ l. bit_mod_above (get_or w (p / 64) 0) (t % 64) (p % 64) l ∙ sym (ap (λ (b : Bool). b && bit (get_or w (p / 64) 0) (p % 64)) (le-ltb p t (omega arith))))
         (below? (p % 64) (t % 64))
 
--- The bits of words with bit p set, if `on` says so.
-pub with_bits_lem : (w r : List ℕ) (p : ℕ) (on : Bool) → ((j : ℕ) → j < 5 → get_or r j 0 ≡ with_word p on j (get_or w j 0)) → With w p on r
-unfolding at with_word
-with_bits_lem w r p on e = record { bits = λ q h. ap (λ (x : ℕ). bit x (q % 64)) (e (q / 64) (omega arith)) ∙ set q on (eqb (q / 64) (p / 64)) refl }
-  where
-    set : (q : ℕ) (a b : Bool) → eqb (q / 64) (p / 64) ≡ b
-        → bit (cond (a && eqb (q / 64) (p / 64)) (bit_or (get_or w (q / 64) 0) (2 ^ (p % 64))) (get_or w (q / 64) 0)) (q % 64) ≡ (bit (get_or w (q / 64) 0) (q % 64) || a && eqb q p)
-    set q false b d = sym (or-false (bit (get_or w (q / 64) 0) (q % 64)))
-    set q true false d =
-        ap (λ (x : Bool). bit (cond x (bit_or (get_or w (q / 64) 0) (2 ^ (p % 64))) (get_or w (q / 64) 0)) (q % 64)) d
-        ∙ sym (ap (λ (x : Bool). bit (get_or w (q / 64) 0) (q % 64) || x) (ne_eqb q p (λ g. eqb-false (q / 64) (p / 64) d (ap (λ (x : ℕ). x / 64) g))) ∙ or-false (bit (get_or w (q / 64) 0) (q % 64)))
-    set q true true d =
-        ap (λ (x : Bool). bit (cond x (bit_or (get_or w (q / 64) 0) (2 ^ (p % 64))) (get_or w (q / 64) 0)) (q % 64)) d
-        ∙ bit_or_lem (get_or w (q / 64) 0) (2 ^ (p % 64)) (q % 64)
-        ∙ ap (λ (x : Bool). bit (get_or w (q / 64) 0) (q % 64) || x) (⊎_elim (same q (eqb-true (q / 64) (p / 64) d)) (other q (eqb-true (q / 64) (p / 64) d)) (equal? (q % 64) (p % 64)))
-      where
-        same : (q : ℕ) → q / 64 ≡ p / 64 → q % 64 ≡ p % 64 → bit (2 ^ (p % 64)) (q % 64) ≡ eqb q p
-        same q g h = let e : q ≡ p = omega arith in ap (bit (2 ^ (p % 64))) h ∙ bit_pow_same (p % 64) ∙ sym (eq-eqb q p e)
+-- The words with bit p set.
+module _ (w : List ℕ) (p : ℕ) (h : p < 320) (l : length w ≡ 5) where
+  abbrev word : ℕ
+  word = bit_or (get_or w (p / 64) 0) (1 * 2 ^ (p % 64) % 2 ^ 64)
 
-        other : (q : ℕ) → q / 64 ≡ p / 64 → (q % 64 ≡ p % 64 → ⊥) → bit (2 ^ (p % 64)) (q % 64) ≡ eqb q p
-        other q g n = bit_pow_other (p % 64) (q % 64) n ∙ sym (ne_eqb q p (λ h. n (ap (λ (x : ℕ). x % 64) h)))
+  same : (q : ℕ) → q / 64 ≡ p / 64 → q % 64 ≡ p % 64 → bit (2 ^ (p % 64)) (q % 64) ≡ eqb q p
+  same q g d = let e : q ≡ p = omega arith in ap (bit (2 ^ (p % 64))) d ∙ bit_pow_same (p % 64) ∙ sym (eq-eqb q p e)
+
+  other : (q : ℕ) → (q % 64 ≡ p % 64 → ⊥) → bit (2 ^ (p % 64)) (q % 64) ≡ eqb q p
+  other q n = bit_pow_other (p % 64) (q % 64) n ∙ sym (ne_eqb q p (λ d. n (ap (λ (x : ℕ). x % 64) d)))
+
+  within : (q : ℕ) → q / 64 ≡ p / 64 → bit (get_or (set w (p / 64) word) (q / 64) 0) (q % 64) ≡ (bit (get_or w (q / 64) 0) (q % 64) || eqb q p)
+  within q e =
+      ap (λ (x : ℕ). bit (get_or (set w (p / 64) word) x 0) (q % 64)) e
+      ∙ ap (λ (x : ℕ). bit x (q % 64)) (get_or-set_same w (p / 64) word 0 (omega arith))
+      ∙ bit_or_lem (get_or w (p / 64) 0) (1 * 2 ^ (p % 64) % 2 ^ 64) (q % 64)
+      ∙ ap₂ ◌||◌ (ap (λ (x : ℕ). bit (get_or w x 0) (q % 64)) (sym e))
+      (ap (λ (x : ℕ). bit x (q % 64)) (one_shifted (p % 64) (omega arith)) ∙ ⊎_elim (same q e) (other q) (equal? (q % 64) (p % 64)))
+
+  outside : (q : ℕ) → (q / 64 ≡ p / 64 → ⊥) → bit (get_or (set w (p / 64) word) (q / 64) 0) (q % 64) ≡ (bit (get_or w (q / 64) 0) (q % 64) || eqb q p)
+  outside q n =
+      ap (λ (x : ℕ). bit x (q % 64)) (get_or-set_other w (p / 64) (q / 64) word 0 n)
+      ∙ sym (ap (λ (b : Bool). bit (get_or w (q / 64) 0) (q % 64) || b) (ne_eqb q p (λ d. n (ap (λ (x : ℕ). x / 64) d))) ∙ or-false (bit (get_or w (q / 64) 0) (q % 64)))
+
+  pub with_on : With w p true (set w (p / 64) word)
+  unfolding at
+  with_on = record { bits = λ q g. ⊎_elim (within q) (outside q) (equal? (q / 64) (p / 64)) }
+
+pub with_off : (w : List ℕ) (p : ℕ) → With w p false w
+with_off w p = record { bits = λ q h. sym (or-false (at w q)) }
 
 zeros : (n j : ℕ) → get_or {A = ℕ} (replicate n 0) j 0 ≡ 0
 zeros zero j = refl
@@ -156,17 +168,6 @@ some_none w z =
     let e : at w q.0 ≡ false = ap (λ (x : ℕ). bit x (q.0 % 64)) (z (q.0 / 64) (omega arith)) ∙ bit_zero (q.0 % 64) in
     subst T e q.2))
 
-pub some_word : (w : List ℕ) (i : ℕ) → i < 5 → get_or w i 0 < 2 ^ 64 → (get_or w i 0 ≡ 0 → ⊥) → true ≡ some_below 320 (at w)
-unfolding at
-some_word w i h f n =
-    let b : (r : ℕ) × ((r < 64) × (bit (get_or w i 0) r ≡ true)) = bit_some 64 (get_or w i 0) (omega arith) f in
-    let r : ℕ = b.0 in
-    let l : r < 64 = b.1.0 in
-    let q : (i * 64 + r) / 64 ≡ i = omega arith in
-    let m : (i * 64 + r) % 64 ≡ r = omega arith in
-    let e : at w (i * 64 + r) ≡ true = ap (λ (x : ℕ). bit (get_or w x 0) ((i * 64 + r) % 64)) q ∙ ap (bit (get_or w i 0)) m ∙ b.1.1 in
-    sym (is_true (some_below 320 (at w)) (some_intro 320 (at w) (i * 64 + r) (omega arith) (subst T (sym e) tt)))
-
 pub raised_up : {w r : List ℕ} → Up w r → Raised w true r
 raised_up u = record { first = u.first; next = u.next }
 
@@ -177,3 +178,46 @@ at_none p = ap (λ (x : ℕ). bit x (p % 64)) (zeros 5 (p / 64)) ∙ bit_zero (p
 
 pub raised_none : {w : List ℕ} → Raised w false (replicate 5 0)
 raised_none = record { first = at_none 0; next = λ p h. at_none (p + 1) }
+
+-- Words that are not all 0 have a bit.
+some_bit : (w : List ℕ) → length w ≡ 5 → Fit64 w → (w ≡ replicate 5 0 → ⊥) → true ≡ some_below 320 (at w)
+some_bit w l f n = go (some_below 320 (at w)) refl
+  where
+    none : some_below 320 (at w) ≡ false → (p : ℕ) → p < 320 → at w p ≡ false
+    none d p h = refuted (at w p) (λ t. subst T d (some_intro 320 (at w) p h t))
+
+    go : (b : Bool) → some_below 320 (at w) ≡ b → true ≡ some_below 320 (at w)
+    go true d = sym d
+    go false d = absurd (n (same_words w (replicate 5 0) l refl f (λ j. let z = zeros 5 j in omega arith) (λ p h. none d p h ∙ sym (at_none p))))
+
+-- Whether words are not all 0, as code computes it.
+pub some_unless : (w : List ℕ) → length w ≡ 5 → Fit64 w → (b : Bool) → b ≡ pointwise nat_eq w (replicate 5 0) → not b ≡ some_below 320 (at w)
+some_unless w l f true e = some_none w (λ j h. ap (λ (v : List ℕ). get_or v j 0) (same_text w (replicate 5 0) e) ∙ zeros 5 j)
+some_unless w l f false e = some_bit w l f (other_text w (replicate 5 0) e)
+
+-- Five words, one by one.
+five : (w : List ℕ) → length w ≡ 5 → w ≡ get_or w 0 0 ∷ get_or w 1 0 ∷ get_or w 2 0 ∷ get_or w 3 0 ∷ get_or w 4 0 ∷ []
+five w l = ext_get_or 0 w _ l (λ j h. word j (omega arith))
+  where
+    word : (j : ℕ) → j < 5 → get_or w j 0 ≡ get_or (get_or w 0 0 ∷ get_or w 1 0 ∷ get_or w 2 0 ∷ get_or w 3 0 ∷ get_or w 4 0 ∷ []) j 0
+    word zero h = refl
+    word (suc zero) h = refl
+    word (suc (suc zero)) h = refl
+    word (suc (suc (suc zero))) h = refl
+    word (suc (suc (suc (suc zero)))) h = refl
+    word (suc (suc (suc (suc (suc j))))) h = absurd (omega arith)
+
+all_five : (a b c d e : Bool) → (a && b && c && d && e) ≡ (a && (b && (c && (d && (e && true)))))
+all_five false b c d e = refl
+all_five true false c d e = refl
+all_five true true false d e = refl
+all_five true true true false e = refl
+all_five true true true true e = sym (and-true e)
+
+-- Whether five words are the same, as code computes it.
+pub same_made : (v w : List ℕ) → length v ≡ 5 → length w ≡ 5
+    → (eqb (get_or v 0 0) (get_or w 0 0) && eqb (get_or v 1 0) (get_or w 1 0) && eqb (get_or v 2 0) (get_or w 2 0) && eqb (get_or v 3 0) (get_or w 3 0) && eqb (get_or v 4 0) (get_or w 4 0))
+    ≡ pointwise nat_eq v w
+same_made v w l m =
+    all_five (eqb (get_or v 0 0) (get_or w 0 0)) (eqb (get_or v 1 0) (get_or w 1 0)) (eqb (get_or v 2 0) (get_or w 2 0)) (eqb (get_or v 3 0) (get_or w 3 0)) (eqb (get_or v 4 0) (get_or w 4 0))
+    ∙ sym (ap₂ (pointwise nat_eq) (five v l) (five w m))

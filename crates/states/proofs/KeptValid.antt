@@ -21,12 +21,13 @@ use Rattle.states.specs.Records.{at, states_of, words_of, rule_words, record_wit
 use Rattle.limits.specs.Limits.{setting_of}
 use Rattle.states.specs.Steps.{set_of, moves_at, after_seen, evaluations_of, moves_between, after_unseen}
 use Rattle.states.specs.Validity.{valid_set, valid_record}
+use Rattle.states.specs.inner.Rules.{valid_words}
 use Rattle.states.proofs.Packing.{words_of_length, at_words_of}
 use Rattle.states.proofs.Moving.{states_length, has_states}
 use Rattle.states.proofs.RuleWords.{record_length}
 use Rattle.states.proofs.EachRule.{rule_kept, rule_new}
 use Rattle.states.proofs.Tops.{top_fits}
-use Rattle.states.proofs.ValidWords.{above, valid_words, valid_of, valid_long, valid_set_lem}
+use Rattle.states.proofs.ValidWords.{above, valid_of, valid_long, valid_set_lem}
 
 -- The words of a set in which some state is.
 set_valid : (m : ℕ) (p : List Bool) → m ≤ 256 → length p ≡ suc m → T (some_below (suc m) (has p)) → T (valid_words m (words_of p))

@@ -7,6 +7,8 @@ use mathlib.Core.Logic.{⊎_elim}
 use native.Mathlib.Omega.{arith}
 use native.Mathlib.Nat.{eq-or-lt_of_le}
 use lib.Dec.{T, eqb}
+use Rattle.std.specs.Prelude.{nat_eq}
+use Rattle.std.specs.Cmp.Lexicographic.{pointwise, same_text, other_text}
 use lib.ListN.{length, replicate, get_or-eq_default}
 use borrow.Author.Tests.{lt-ltb, le-ltb, eq-eqb, ne_eqb}
 use Rattle.lists.specs.Lists.{some_below}
@@ -16,7 +18,7 @@ use Rattle.fillings.proofs.Next.{unseen_length}
 use Rattle.fillings.proofs.Still.{still}
 use Rattle.fillings.proofs.UnseenStates.{below_top, counted_up, top_within, first_states, unmoved_times}
 use Rattle.states.specs.Records.{at, Fit64, states_of, words_of}
-use Rattle.states.specs.inner.Words.{Below, With, Same, Filled}
+use Rattle.states.specs.inner.Words.{Below, With, Filled}
 use Rattle.states.proofs.FiveWords.{at_none}
 use Rattle.states.proofs.Packing.{same_words, words_of_length, words_of_fit, at_words_of}
 use Rattle.states.proofs.Moving.{states_length, has_states, some_states}
@@ -69,8 +71,12 @@ module _ (w : List ℕ) (m : ℕ) (recovers : Bool) (pos : 0 < m) (fits : m ≤ 
       ∙ ap words_of (sym (unmoved_times m recovers P (states_length w m) d n))
 
   -- k evaluations of a set from which 0 can be reached
-  module _ (low cut up : List ℕ) (k : ℕ) (held b : Bool) (kl : k ≤ m) (he : held ≡ at w m) (lo : Below w m low) (cu : Below w (m - k) cut) (fi : Filled cut k up)
-      (sa : Same low cut b) (ll : length low ≡ 5) (lf : Fit64 low) (cl : length cut ≡ 5) (cf : Fit64 cut) where
+  module _ (low cut up : List ℕ) (k : ℕ) (held : Bool) (kl : k ≤ m) (he : held ≡ at w m) (lo : Below w m low) (cu : Below w (m - k) cut) (fi : Filled cut k up)
+      (ll : length low ≡ 5) (lf : Fit64 low) (cl : length cut ≡ 5) (cf : Fit64 cut) where
+    -- whether no state is cut off
+    abbrev b : Bool
+    b = pointwise nat_eq low cut
+
     low_at : (p : ℕ) → p < m → at low p ≡ has P p
     low_at p h = lo.bits p (omega arith) ∙ ap (λ (x : Bool). x && at w p) (lt-ltb p m h) ∙ sym (has_states w m p (omega arith))
 
@@ -108,11 +114,11 @@ module _ (w : List ℕ) (m : ℕ) (recovers : Bool) (pos : 0 < m) (fits : m ≤ 
       where
         from : (x : Bool) → some_below (suc k) (below_top m P) ≡ x → b ≡ false → T x
         from true e d = tt
-        from false e d = sa.no d (same_words low cut ll cl lf cf (alike e))
+        from false e d = other_text low cut (sym d) (same_words low cut ll cl lf cf (alike e))
 
         differ : (x : Bool) (p : ℕ) → b ≡ x → m - k ≤ p → p < m → T (has P p) → T (not x)
         differ false p d h l t = tt
-        differ true p d h l t = subst T (sym (low_at p l) ∙ ap (λ (v : List ℕ). at v p) (sa.yes d) ∙ cut_none p (omega arith) h) t
+        differ true p d h l t = subst T (sym (low_at p l) ∙ ap (λ (v : List ℕ). at v p) (same_text low cut (sym d)) ∙ cut_none p (omega arith) h) t
 
         to : (i : ℕ) × (i < suc k) × T (has P (m - i)) → T (held || not b)
         to (zero, l, t) = or_left held (not b) (subst T (sym (top_held ∙ ap (has P) (let e : m ≡ m - 0 = omega arith in e))) t)
@@ -157,11 +163,11 @@ module _ (w : List ℕ) (m : ℕ) (recovers : Bool) (pos : 0 < m) (fits : m ≤ 
       unseen_bits n p h =
           ⊎_elim (below_bits p) (λ g. ⊎_elim (λ e. ap (at r) (sym e) ∙ top_bits ∙ ap (has Q) e) (λ l. past_bits p h l n) (eq-or-lt_of_le g)) (below? p m)
 
-  pub some_move : (low cut up r : List ℕ) (n k : ℕ) (some held b : Bool) → Below w m low → some ≡ some_below 320 (at low) → held ≡ at w m
-      → (some || recovers && held) ≡ true → k ≡ min n m → Below w (m - k) cut → Filled cut k up → Same low cut b → With up m (held || not b) r
+  pub some_move : (low cut up r : List ℕ) (n k : ℕ) (some held differ : Bool) → Below w m low → some ≡ some_below 320 (at low) → held ≡ at w m
+      → (some || recovers && held) ≡ true → k ≡ min n m → Below w (m - k) cut → Filled cut k up → differ ≡ not (pointwise nat_eq low cut) → With up m (held || differ) r
       → length low ≡ 5 → Fit64 low → length cut ≡ 5 → Fit64 cut → length r ≡ 5 → Fit64 r → r ≡ words_of (unseen_times n m recovers P)
-  some_move low cut up r n k some held b lo so he e ek cu fi sa wi ll lf cl cf l f =
+  some_move low cut up r n k some held differ lo so he e ek cu fi di wi ll lf cl cf l f =
       words_of_set (unseen_times k m recovers P) r l f
-      (unseen_bits low cut up k held b (omega arith) he lo cu fi sa ll lf cl cf r wi (sym (falls low some held lo so he) ∙ e) (unseen_length k m recovers P (states_length w m)))
+      (unseen_bits low cut up k held (omega arith) he lo cu fi ll lf cl cf r (subst (λ (b : Bool). With up m (held || b) r) di wi) (sym (falls low some held lo so he) ∙ e) (unseen_length k m recovers P (states_length w m)))
       ∙ ap (λ (x : ℕ). words_of (unseen_times x m recovers P)) ek
       ∙ ap words_of (sym (still n m recovers P (states_length w m)))

@@ -1,48 +1,19 @@
--- Five words compared, and five words some places up with every bit below set.
+-- Five words some places up, with every bit below set.
 use Prim.Native.Nat.{ℕ, zero, suc, ◌+◌, ◌*◌, ◌^◌, ◌-◌, ◌/◌, ◌%◌, ◌≤◌, ◌<◌}
-use mathlib.Core.Path.{◌≡◌, ap, ap₂, sym, ◌∙◌, subst}
+use mathlib.Core.Path.{◌≡◌, ap, ap₂, sym, ◌∙◌}
 use mathlib.Core.List.{List, [], ◌∷◌}
-use mathlib.Core.Bool.{Bool, true, ◌&&◌, ◌||◌, or-false}
+use mathlib.Core.Bool.{Bool, true, ◌||◌, or-false}
 use mathlib.Core.Logic.{⊎_elim}
 use native.Mathlib.Omega.{arith}
-use lib.Dec.{T, ltb, eqb, eqb→eq, eqb_refl}
-use lib.ListN.{get_or, length}
-use lib.Seq.{ext_get_or}
+use lib.Dec.{ltb}
+use lib.ListN.{get_or}
 use lib.Bits.{bit_or}
 use borrow.Author.Tests.{lt-ltb, le-ltb}
-use Rattle.lists.proofs.Bools.{and_left, and_right, both, below?}
+use Rattle.lists.proofs.Bools.{below?}
 use Rattle.states.specs.Records.{bit, at}
-use Rattle.states.specs.inner.Words.{Same, word_up, WordsUp, Joined, Filled}
+use Rattle.states.specs.inner.Words.{word_up, WordsUp, Joined, Filled}
 use Rattle.states.proofs.Bits.{bit_mod, bit_or_lem, bit_shl, bit_shl_below, bit_shr, bit_past, bit_ones}
 use Rattle.states.proofs.Packing.{half}
-
--- Whether each of five words is the same, as code computes it.
-abbrev alike : List ℕ → List ℕ → ℕ → Bool
-alike v w zero = eqb (get_or v 0 0) (get_or w 0 0)
-alike v w (suc j) = alike v w j && eqb (get_or v (suc j) 0) (get_or w (suc j) 0)
-
-alike_at : (v w : List ℕ) (n j : ℕ) → T (alike v w n) → j ≤ n → get_or v j 0 ≡ get_or w j 0
-alike_at v w zero zero t h = eqb→eq (get_or v 0 0) (get_or w 0 0) t
-alike_at v w zero (suc j) t h = absurd (omega arith)
-alike_at v w (suc n) j t h =
-    ⊎_elim (λ l. alike_at v w n j (and_left (alike v w n) (eqb (get_or v (suc n) 0) (get_or w (suc n) 0)) t) (omega arith))
-    (λ l.
-    let e : j ≡ suc n = omega arith in
-    let d = eqb→eq (get_or v (suc n) 0) (get_or w (suc n) 0) (and_right (alike v w n) (eqb (get_or v (suc n) 0) (get_or w (suc n) 0)) t) in
-    ap (λ (x : ℕ). get_or v x 0) e ∙ d ∙ sym (ap (λ (x : ℕ). get_or w x 0) e))
-    (below? j (suc n))
-
-alike_self : (w : List ℕ) (n : ℕ) → T (alike w w n)
-alike_self w zero = eqb_refl (get_or w 0 0)
-alike_self w (suc n) = both (alike w w n) (eqb (get_or w (suc n) 0) (get_or w (suc n) 0)) (alike_self w n) (eqb_refl (get_or w (suc n) 0))
-
-pub same_made : (v w : List ℕ) → length v ≡ 5 → length w ≡ 5
-    → Same v w
-    (eqb (get_or v 0 0) (get_or w 0 0) && eqb (get_or v 1 0) (get_or w 1 0) && eqb (get_or v 2 0) (get_or w 2 0) && eqb (get_or v 3 0) (get_or w 3 0) && eqb (get_or v 4 0) (get_or w 4 0))
-same_made v w l m = record {
-  yes = λ e. ext_get_or 0 v w (l ∙ sym m) (λ j h. alike_at v w 4 j (subst T (sym e) tt) (omega arith));
-  no = λ e d. let t : T (alike v w 4) = subst (λ (x : List ℕ). T (alike x w 4)) (sym d) (alike_self w 4) in subst T e t;
-}
 
 -- The high word r places up over the highest r bits of the low one.
 pub joined_made : (high low r : ℕ) → r < 64 → low < 2 ^ 64 → Joined high low r (bit_or (high * 2 ^ r % 2 ^ 64) (low / 2 / 2 ^ (63 - r)))

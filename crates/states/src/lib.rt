@@ -23,7 +23,7 @@ use unseen::miss;
 pub use validity::valid;
 
 // Five words a rule: state s of rule i is bit s of the words from 5 i on, the lowest first.
-#[derive(Clone, Copy)]
+#[derive(Clone, Copy, Debug, PartialEq, Eq)]
 pub struct States {
     pub words: [u64; 80],
 }
@@ -44,28 +44,25 @@ impl States {
     }
 
     // The states after a seen tick.
-    pub fn seen(self, settings: Settings, idle: u16, tick: u32, readings: Readings) -> States
+    pub fn seen(mut self, settings: Settings, idle: u16, tick: u32, readings: Readings) -> States
         ensures { result.words ≡ after_seen settings.of idle tick readings self.words }
     {
-        let mut words = self.words;
-        see(&mut words, settings, idle, tick, readings);
-        States { words }
+        see(&mut self.words, settings, idle, tick, readings);
+        self
     }
 
     // The states after the unseen ticks from first to last.
-    pub fn unseen(self, settings: Settings, first: u32, last: u32) -> States
+    pub fn unseen(mut self, settings: Settings, first: u32, last: u32) -> States
         ensures { result.words ≡ after_unseen settings.of first last self.words }
     {
-        let mut words = self.words;
-        miss(&mut words, settings, first, last);
-        States { words }
+        miss(&mut self.words, settings, first, last);
+        self
     }
 
     // The alert and the status of every rule.
     pub fn flags(self, settings: Settings) -> Flags
         ensures { result.of ≡ all_flags settings.of self.words }
     {
-        let words = self.words;
-        flags_in(&words, settings)
+        flags_in(&self.words, settings)
     }
 }

@@ -1,22 +1,18 @@
 // What is read off the record: the flags of all rules.
-ghost use Rattle.std.specs.Prelude.{◌≡◌, ◌<◌, length};
-ghost use Rattle.rules.specs.Table.{row_at};
-ghost use Rattle.rules.specs.Evaluation.{top};
-ghost use Rattle.fillings.specs.Flags.{flags_of};
-ghost use Rattle.states.specs.Steps.{set_of};
+ghost use Rattle.std.specs.Prelude.{◌≡◌};
 ghost use Rattle.states.specs.Readings.{all_flags};
+ghost use Rattle.states.specs.inner.Rules.{flags_of_words};
 
 use crate::record::load;
 use crate::words::{alert_of, status_of, top_for};
 use flags::{Flag, Flags, RuleFlags};
 use rules::{Setting, Settings};
 
-fn flags_of_rule(words: &[u64], i: usize, setting: Setting) -> RuleFlags
-    requires { (length words.now ≡ 80) × (i < 16) }
-    ensures { result ≡ flags_of (row_at i) (top setting.time) (set_of setting i words.now) }
+// The flags of a rule of these words.
+fn flags_of_rule(w: [u64; 5], setting: Setting) -> RuleFlags
+    ensures { result ≡ flags_of_words setting w }
 {
     let top = top_for(setting.time);
-    let w = load(words, i);
     RuleFlags {
         alert: alert_of(w, top),
         status: status_of(w, top),
@@ -24,7 +20,7 @@ fn flags_of_rule(words: &[u64], i: usize, setting: Setting) -> RuleFlags
 }
 
 // The alert and the status of every rule.
-pub(crate) fn flags_in(words: &[u64], settings: Settings) -> Flags
+pub(crate) fn flags_in(words: &[u64; 80], settings: Settings) -> Flags
     ensures { result.of ≡ all_flags settings.of words.now }
 {
     let unknown = RuleFlags {
@@ -32,14 +28,8 @@ pub(crate) fn flags_in(words: &[u64], settings: Settings) -> Flags
         status: Flag::Unknown,
     };
     let mut flags = Flags { of: [unknown; 16] };
-    if words.len() != 80 {
-        return flags;
-    }
-    let mut i: usize = 0;
-    while i < 16 {
-        let setting = settings.of[i];
-        flags.of[i] = flags_of_rule(words, i, setting);
-        i += 1;
+    for (i, setting) in settings.of.iter().enumerate() {
+        flags.of[i] = flags_of_rule(load(words, i), *setting);
     }
     flags
 }

@@ -1,69 +1,55 @@
 // A seen tick.
-ghost use Rattle.std.specs.Prelude.{◌≡◌, ◌&&◌, ◌<◌, eqb, length};
-ghost use Rattle.states.specs.Records.{record_with};
-ghost use Rattle.states.specs.Steps.{moves_by, seen_by, after_seen};
+ghost use Rattle.std.specs.Prelude.{◌≡◌, ◌<◌};
+ghost use Rattle.states.specs.Steps.{moves_by, after_seen};
+ghost use Rattle.states.specs.inner.Rules.{evaluated_words};
 
 use crate::record::{load, store};
-use crate::words::{at_zero, seen_moved, top_for};
+use crate::words::{Moves, at_zero, moved, top_for};
 use rules::{Readings, Row, Setting, Settings};
 
-// Evaluates rule i, which is switched on. One at 0 alone that does not trip is left as it is.
-fn evaluate_rule(
-    words: &mut [u64],
-    i: usize,
-    row: Row,
-    setting: Setting,
-    idle: u16,
-    readings: Readings,
-)
-    requires { (length words.old ≡ 80) × ((i < 16) × (0 < setting.time)) }
-    ensures { words.new ≡ record_with (λ j. eqb j i) (λ j. seen_by row idle readings setting i words.old) words.old }
+// Whether a seen tick moves a rule of a row: it is switched on and evaluated there.
+fn moves_by(row: Row, tick: u32, setting: Setting) -> bool
+    ensures { result ≡ moves_by row tick setting }
+{
+    setting.time != 0 && rules::evaluated_at(row, tick)
+}
+
+// The words of a rule that is switched on, after an evaluation. One at 0 alone that does not trip is left as it is.
+fn evaluated(w: [u64; 5], row: Row, setting: Setting, idle: u16, readings: Readings) -> [u64; 5]
+    requires { 0 < setting.time }
+    ensures { result ≡ evaluated_words row idle readings setting w }
 {
     let top = top_for(setting.time);
     let trips = rules::meets_threshold(row, idle, setting, readings);
-    let w = load(words, i);
-    if !trips & at_zero(w) {
-        return;
+    if !trips && at_zero(w) {
+        return w;
     }
     let clears = rules::meets_recovery(row, setting, readings);
-    let v = seen_moved(w, top, trips, clears);
-    store(words, i, v);
+    let moves = Moves {
+        up: trips,
+        restart: !trips,
+        leave: clears,
+        stay: !clears,
+    };
+    moved(w, top, moves)
 }
 
-// Moves rule i by a row of the table.
-fn step_rule(
-    words: &mut [u64],
-    i: usize,
-    row: Row,
-    setting: Setting,
+// Moves all rules by a seen tick.
+pub(crate) fn see(
+    words: &mut [u64; 80],
+    settings: Settings,
     idle: u16,
     tick: u32,
     readings: Readings,
 )
-    requires { (length words.old ≡ 80) × (i < 16) }
-    ensures { words.new ≡ record_with (λ j. eqb j i && moves_by row tick setting) (λ j. seen_by row idle readings setting i words.old) words.old }
-{
-    if setting.time == 0 {
-        return;
-    }
-    if rules::evaluated_at(row, tick) {
-        evaluate_rule(words, i, row, setting, idle, readings);
-    }
-}
-
-// Moves all rules by a seen tick, where the record stands.
-pub(crate) fn see(words: &mut [u64], settings: Settings, idle: u16, tick: u32, readings: Readings)
     ensures { words.new ≡ after_seen settings.of idle tick readings words.old }
 {
-    if words.len() != 80 {
-        return;
-    }
     let table = rules::all_rows();
-    let mut i: usize = 0;
-    while i < 16 {
-        let setting = settings.of[i];
+    for (i, setting) in settings.of.iter().enumerate() {
         let row = table.of[i];
-        step_rule(words, i, row, setting, idle, tick, readings);
-        i += 1;
+        if moves_by(row, tick, *setting) {
+            let w = load(words, i);
+            store(words, i, evaluated(w, row, *setting, idle, readings));
+        }
     }
 }

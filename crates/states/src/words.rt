@@ -1,17 +1,25 @@
 // A set of the states of one rule as five words: state s is bit s.
-ghost use Rattle.std.specs.Prelude.{◌≡◌, true, ◌<◌, ◌≤◌, min};
+ghost use Rattle.std.specs.Prelude.{◌≡◌, true, ◌<◌, ◌≤◌, nat_eq};
+ghost use Rattle.std.specs.Cmp.Lexicographic.{pointwise};
 ghost use Rattle.lists.specs.Lists.{some_below};
-ghost use Rattle.fillings.specs.PossibleStates.{found, next, start, unseen_times};
+ghost use Rattle.fillings.specs.PossibleStates.{next, start, unseen_times};
 ghost use Rattle.rules.specs.Evaluation.{top, alert, status};
 ghost use Rattle.fillings.specs.Flags.{flag};
 ghost use Rattle.states.specs.Records.{at, states_of, words_of};
-ghost use Rattle.states.specs.inner.Words.{below_word, with_word, Below, Up, Raised, With, Alerting, Same, WordsUp, Joined, Filled};
+ghost use Rattle.states.specs.inner.Words.{below_word, Below, Up, Raised, With, Alerting, WordsUp, Joined, Filled};
 
 use flags::Flag;
 
-const HALF: u64 = 9223372036854775808;
+const HALF: u64 = 1 << 63;
 
-const FULL: u64 = 18446744073709551615;
+// What an evaluation can do to a state: below the top count up or restart, at the top leave it or stay.
+#[derive(Clone, Copy)]
+pub(crate) struct Moves {
+    pub up: bool,
+    pub restart: bool,
+    pub leave: bool,
+    pub stay: bool,
+}
 
 // The top state of a rule, which fits its words.
 pub(crate) fn top_for(time: u8) -> usize
@@ -27,7 +35,7 @@ fn test(w: [u64; 5], p: usize) -> bool
     (w[p / 64] >> (p % 64)) % 2 == 1
 }
 
-pub(crate) fn below_word(x: u64, j: usize, t: usize) -> u64
+fn below_word(x: u64, j: usize, t: usize) -> u64
     ensures { result ≡ below_word t j x }
 {
     if j < t / 64 {
@@ -40,15 +48,12 @@ pub(crate) fn below_word(x: u64, j: usize, t: usize) -> u64
 }
 
 // The states below t.
-fn below(mut w: [u64; 5], t: usize) -> [u64; 5]
+pub(crate) fn below(mut w: [u64; 5], t: usize) -> [u64; 5]
     requires { t < 320 }
     ensures { Below w t result }
 {
-    let mut i: usize = 0;
-    while i < 5 {
-        let x = w[i];
-        w[i] = below_word(x, i, t);
-        i += 1;
+    for (j, x) in w.iter_mut().enumerate() {
+        *x = below_word(*x, j, t);
     }
     w
 }
@@ -56,27 +61,13 @@ fn below(mut w: [u64; 5], t: usize) -> [u64; 5]
 fn up_one(mut w: [u64; 5]) -> [u64; 5]
     ensures { Up w result }
 {
-    let mut c: u64 = 0;
-    let mut i: usize = 0;
-    while i < 5 {
-        let x = w[i];
-        w[i] = x % HALF * 2 + c;
-        c = x / HALF;
-        i += 1;
+    let mut carry = 0;
+    for x in &mut w {
+        let next = *x / HALF;
+        *x = *x % HALF * 2 + carry;
+        carry = next;
     }
     w
-}
-
-fn with_word(x: u64, j: usize, p: usize, on: bool) -> u64
-    ensures { result ≡ with_word p on j x }
-{
-    if j == p / 64 {
-        if on {
-            return x | (1 << (p % 64));
-        }
-        return x;
-    }
-    x
 }
 
 // The states with state p, if `on` says so.
@@ -84,32 +75,23 @@ fn with_state(mut w: [u64; 5], p: usize, on: bool) -> [u64; 5]
     requires { p < 320 }
     ensures { With w p on result }
 {
-    let mut i: usize = 0;
-    while i < 5 {
-        let x = w[i];
-        w[i] = with_word(x, i, p, on);
-        i += 1;
+    if on {
+        w[p / 64] |= 1 << (p % 64);
     }
     w
 }
 
-fn some(w: [u64; 5]) -> bool
-    ensures { result ≡ some_below 320 (at w) }
-{
-    let mut i: usize = 0;
-    while i < 5 {
-        if w[i] != 0 {
-            return true;
-        }
-        i += 1;
-    }
-    false
-}
-
-fn same(v: [u64; 5], w: [u64; 5]) -> bool
-    ensures { Same v w result }
+// Tried as `v == w`: a tick and its check then take half as long again, since the library's loop keeps the words in memory.
+pub(crate) fn same(v: [u64; 5], w: [u64; 5]) -> bool
+    ensures { result ≡ pointwise nat_eq v w }
 {
     (v[0] == w[0]) & (v[1] == w[1]) & (v[2] == w[2]) & (v[3] == w[3]) & (v[4] == w[4])
+}
+
+pub(crate) fn some(w: [u64; 5]) -> bool
+    ensures { result ≡ some_below 320 (at w) }
+{
+    !same(w, [0; 5])
 }
 
 // Whether state 0 alone is possible.
@@ -126,51 +108,26 @@ fn raised(w: [u64; 5], on: bool) -> [u64; 5]
     if on { up_one(w) } else { [0; 5] }
 }
 
-// The states after an evaluation that can count up, restart, leave the top or stay there.
-pub(crate) fn moved(
-    w: [u64; 5],
-    top: usize,
-    up: bool,
-    restart: bool,
-    leave: bool,
-    stay: bool,
-) -> [u64; 5]
+// The states after an evaluation.
+pub(crate) fn moved(w: [u64; 5], top: usize, moves: Moves) -> [u64; 5]
     requires { (0 < top) × (top ≤ 256) }
-    ensures { result ≡ words_of (next top (record { up = up; restart = restart; leave = leave; stay = stay }) (states_of w top)) }
+    ensures { result ≡ words_of (next top (record { up = moves.up; restart = moves.restart; leave = moves.leave; stay = moves.stay }) (states_of w top)) }
 {
     let held = test(w, top);
     let low = below(w, top);
-    let counted = raised(low, up);
-    let kept = with_state(counted, top, stay & held);
-    let zero = restart & some(low) | leave & held;
+    let counted = raised(low, moves.up);
+    // `&` and `|` of what is at hand: neither the code nor its proof branches.
+    let kept = with_state(counted, top, moves.stay & held);
+    let zero = moves.restart & some(low) | moves.leave & held;
     with_state(kept, 0, zero)
-}
-
-// The states after a seen evaluation.
-pub(crate) fn seen_moved(w: [u64; 5], top: usize, trips: bool, clears: bool) -> [u64; 5]
-    requires { (0 < top) × (top ≤ 256) }
-    ensures { result ≡ words_of (next top (found trips clears) (states_of w top)) }
-{
-    let held = test(w, top);
-    let low = below(w, top);
-    if trips {
-        let up = up_one(low);
-        let kept = with_state(up, top, !clears & held);
-        return with_state(kept, 0, clears & held);
-    }
-    let kept = with_state([0; 5], top, !clears & held);
-    with_state(kept, 0, some(low) | clears & held)
 }
 
 // The words q words up, with full words below.
 fn words_up(mut w: [u64; 5], q: usize) -> [u64; 5]
     ensures { WordsUp w q result }
 {
-    let mut i: usize = 0;
-    while i < q {
-        let next = [FULL, w[0], w[1], w[2], w[3]];
-        w = next;
-        i += 1;
+    for _ in 0..q {
+        w = [u64::MAX, w[0], w[1], w[2], w[3]];
     }
     w
 }
@@ -189,20 +146,12 @@ fn filled(w: [u64; 5], k: usize) -> [u64; 5]
 {
     let v = words_up(w, k / 64);
     let r = k % 64;
-    let a = joined(v[0], FULL, r);
+    let a = joined(v[0], u64::MAX, r);
     let b = joined(v[1], v[0], r);
     let c = joined(v[2], v[1], r);
     let d = joined(v[3], v[2], r);
     let e = joined(v[4], v[3], r);
     [a, b, c, d, e]
-}
-
-// The smaller of a number and a state.
-fn smaller(n: u64, top: usize) -> usize
-    ensures { result ≡ min n top }
-{
-    let end = top as u64;
-    if n < end { n as usize } else { top }
 }
 
 // The states after n unseen evaluations. If 0 can be reached: all below k, those that count up k times, and the top if it was
@@ -212,12 +161,19 @@ pub(crate) fn many_unseen(w: [u64; 5], top: usize, recovers: bool, n: u64) -> [u
     ensures { result ≡ words_of (unseen_times n top recovers (states_of w top)) }
 {
     if n == 1 {
-        return moved(w, top, true, true, recovers, true);
+        let moves = Moves {
+            up: true,
+            restart: true,
+            leave: recovers,
+            stay: true,
+        };
+        return moved(w, top, moves);
     }
     let held = test(w, top);
     let low = below(w, top);
+    // `|` and `&` as in `moved`.
     if some(low) | recovers & held {
-        let k = smaller(n, top);
+        let k = n.min(top as u64) as usize;
         let cut = below(w, top - k);
         let up = filled(cut, k);
         return with_state(up, top, held | !same(low, cut));

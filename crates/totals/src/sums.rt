@@ -1,13 +1,6 @@
 // What a sample and a hole add to the totals.
-ghost use Rattle.std.specs.Prelude.{◌≡◌, suc, ◌-◌, ◌≤◌, min};
+ghost use Rattle.std.specs.Prelude.{◌≡◌, suc, ◌-◌, ◌≤◌};
 ghost use Rattle.fillings.specs.Charge.{inward, outward};
-
-// A section has at most 65,535 records.
-pub(crate) fn few(count: usize) -> usize
-    ensures { result ≡ min count 65535 }
-{
-    if count < 65535 { count } else { 65535 }
-}
 
 // What a current charges, in a second.
 pub fn inward_of(current: i16) -> u64
@@ -16,7 +9,7 @@ pub fn inward_of(current: i16) -> u64
     if 0 <= current { current as u64 } else { 0 }
 }
 
-// What a current discharges, in a second.
+// What a current discharges, in a second: beside `inward_of`, since one function with the sign as a parameter would be no plainer.
 pub fn outward_of(current: i16) -> u64
     ensures { (result ≡ outward current) × (result ≤ 32768) }
 {

@@ -1,6 +1,4 @@
-pub mod Heads
 pub mod Layouts
-pub mod Walks
 pub mod Nexts
 pub mod RecordTurns
 pub mod CoverTurns

@@ -2,8 +2,9 @@
 #![tactic(auto)]
 
 ghost use Rattle.std.specs.Prelude.{◌≡◌};
-ghost use Rattle.trace.specs.Sections.{walk_answer, answer_of_walk, reply_count, answer_of_count};
-ghost use Rattle.trace.specs.Acceptance.{accept_answer, answer_of_accept, ticks_of, layout_of, settings_in};
+ghost use Rattle.refusals.specs.Refusals.{answer_of, answer_as};
+ghost use Rattle.trace.specs.Sections.{walk_answer, reply_count};
+ghost use Rattle.trace.specs.Acceptance.{accept_answer, parsed_of};
 
 mod coverage;
 mod next;
@@ -11,15 +12,15 @@ mod order;
 mod replies;
 mod sections;
 
-pub use next::{Kind, Next, Record, Step, advance, next_record};
-use order::{accept_layout, refuse};
+pub use next::{Kind, Record, Step, advance, next_record};
+use order::accept_layout;
 use refusals::Refusal;
 use rules::Settings;
 pub use sections::sample_width;
-use sections::{Checked, Sectioned, check_head, check_rule_count, read_section};
+use sections::{check_head, check_rule_count, read_section};
 
 // Where the sections of a trace lie, and the bytes of a sample. The rules are the bytes 6 to 165.
-#[derive(Clone, Copy)]
+#[derive(Clone, Copy, Debug, PartialEq, Eq)]
 pub struct Layout {
     pub cells: u8,
     pub idle: u16,
@@ -32,37 +33,22 @@ pub struct Layout {
     pub sample_width: usize,
 }
 
-#[derive(Clone, Copy)]
-pub enum Walk {
-    Whole(Layout),
-    Refused(Refusal),
-}
-
 // The sections of a trace, or the first refusal among 1 to 6 and 11. The reply count is that of the verdict buffer.
-pub fn walk_sections(s: &[u8]) -> Walk
-    ensures { answer_of_walk result ≡ walk_answer s.now }
+#[tactic(auto, unfolding(crate::specs::Sections::walk_answer))]
+pub fn walk_sections(s: &[u8]) -> Result<Layout, Refusal>
+    ensures { answer_of result ≡ walk_answer s.now }
 {
-    if let Checked::Refused(why) = check_head(s, 1) {
-        return Walk::Refused(why);
-    }
-    if let Checked::Refused(why) = check_rule_count(s) {
-        return Walk::Refused(why);
-    }
-    let Sectioned::At(holes) = read_section(s, 166, 8) else {
-        return Walk::Refused(Refusal::PastEnd);
-    };
-    let Sectioned::At(replies) = read_section(s, holes.end, 10) else {
-        return Walk::Refused(Refusal::PastEnd);
-    };
+    check_head(s, 1)?;
+    check_rule_count(s)?;
+    let holes = read_section(s, 166, 8)?;
+    let replies = read_section(s, holes.end, 10)?;
     let cells = s[1];
     let width = sample_width(cells);
-    let Sectioned::At(samples) = read_section(s, replies.end, width) else {
-        return Walk::Refused(Refusal::PastEnd);
-    };
+    let samples = read_section(s, replies.end, width)?;
     if samples.end != s.len() {
-        return Walk::Refused(Refusal::LeftOver);
+        return Err(Refusal::LeftOver);
     }
-    Walk::Whole(Layout {
+    Ok(Layout {
         cells,
         idle: bytes_le::u16_at(s, 2),
         holes: holes.start,
@@ -75,44 +61,26 @@ pub fn walk_sections(s: &[u8]) -> Walk
     })
 }
 
-#[derive(Clone, Copy)]
-pub enum ReplyCount {
-    Replies(usize),
-    Refused(Refusal),
-}
-
 // The reply count of a trace, which its verdict buffer has to have, or the refusal of the walk over the sections.
-pub fn reply_count(s: &[u8]) -> ReplyCount
-    ensures { answer_of_count result ≡ reply_count (walk_answer s.now) }
+pub fn reply_count(s: &[u8]) -> Result<usize, Refusal>
+    ensures { answer_of result ≡ reply_count (walk_answer s.now) }
 {
-    match walk_sections(s) {
-        Walk::Refused(why) => ReplyCount::Refused(why),
-        Walk::Whole(l) => ReplyCount::Replies(l.reply_count),
-    }
+    Ok(walk_sections(s)?.reply_count)
 }
 
-#[derive(Clone, Copy)]
-pub enum Accepted {
-    Covered(u32),
-    Refused(Refusal),
-}
-
-// An acceptance: the ticks that the trace covers, its layout and its settings.
-#[derive(Clone, Copy)]
+// What an accepted trace hands on.
+#[derive(Clone, Copy, Debug, PartialEq, Eq)]
 pub struct Acceptance {
-    pub answer: Accepted,
     pub layout: Layout,
     pub settings: Settings,
+    pub ticks: u32,
 }
 
 // Accepts a trace, or refuses it for the first reason in the paper's order.
-pub fn accept(s: &[u8]) -> Acceptance
-    ensures answer { answer_of_accept result.answer ≡ ticks_of (accept_answer s.now) }
-    ensures layout { result.layout ≡ layout_of (accept_answer s.now) }
-    ensures settings { result.settings.of ≡ settings_in (accept_answer s.now) }
+#[tactic(auto, unfolding(crate::specs::Acceptance::accept_answer))]
+pub fn accept(s: &[u8]) -> Result<Acceptance, Refusal>
+    ensures { answer_as parsed_of result ≡ accept_answer s.now }
 {
-    match walk_sections(s) {
-        Walk::Refused(why) => refuse(why),
-        Walk::Whole(l) => accept_layout(s, l),
-    }
+    let layout = walk_sections(s)?;
+    accept_layout(s, layout)
 }

@@ -3,7 +3,7 @@ use Rattle.std.specs.Prelude.{ℕ, ◌+◌, ◌*◌, ◌/◌, ◌%◌, Bool, tru
 use Rattle.std.specs.Int.Signed.{le_z}
 use Rattle.std.specs.Int.{w16}
 use Rattle.std.proofs.Common.{to_z}
-use Rattle.refusals.specs.Refusals.{Answer, answer, refused, refusal}
+use Rattle.refusals.specs.Refusals.{Answer, answer, refused}
 use Rattle.pec.specs.Reply as reply
 use Rattle.flags.specs.declared.Flag.{Flag}
 use Rattle.flags.specs.declared.Flag.TheVariants.{Clear, Held, Unknown}
@@ -11,17 +11,16 @@ use Rattle.verdicts.specs.declared.Tick.{Tick}
 use Rattle.verdicts.specs.declared.Tick.TheVariants.{Seen, Unseen}
 use Rattle.verdicts.specs.declared.Alarms.{Alarms}
 use Rattle.verdicts.specs.declared.Verdict.{Verdict}
-use Rattle.verdicts.specs.declared.Verdict.TheVariants.{WrongAddress, WrongCode, OtherCommand, Agrees, Differs, CannotTell, Refused}
+use Rattle.verdicts.specs.declared.Verdict.TheVariants.{WrongAddress, WrongCode, OtherCommand, Agrees, Differs, CannotTell}
 
--- What the verdict call answers, in the paper's numbers.
-abbrev pub answer_of_verdict : Verdict → Answer ℕ
-answer_of_verdict WrongAddress = answer 1
-answer_of_verdict WrongCode = answer 2
-answer_of_verdict OtherCommand = answer 3
-answer_of_verdict Agrees = answer 4
-answer_of_verdict Differs = answer 5
-answer_of_verdict CannotTell = answer 6
-answer_of_verdict (Refused why) = refusal why
+-- The number of a verdict.
+abbrev pub number_of : Verdict → ℕ
+number_of WrongAddress = 1
+number_of WrongCode = 2
+number_of OtherCommand = 3
+number_of Agrees = 4
+number_of Differs = 5
+number_of CannotTell = 6
 
 -- The word of a reply: low byte, high byte.
 abbrev pub word_of : List ℕ → ℕ

@@ -10,30 +10,11 @@ use borrow.Author.Tests.{leb-true, leb-false, le-leb, lt-leb}
 use Rattle.lists.proofs.Bools.{both_true}
 use Rattle.bytes_le.specs.Numbers.{u32_at}
 use Rattle.walk.specs.declared.Cursor.{Cursor}
-use Rattle.walk.specs.declared.Ahead.TheVariants.{Unseen, Sample, End}
+use Rattle.std.specs.Prelude.{Some, None}
+use Rattle.walk.specs.declared.Ahead.TheVariants.{Unseen, Sample}
 use Rattle.walk.specs.Walk.{hole_here, past_run, past_sample, ahead}
 
-pub too_wide : (at width len : ℕ) → len < width → false ≡ leb (at + width) len
-too_wide at width len h = rw (lt-leb (at + width) len (omega arith))
-
-pub by_the_rest : (at width len : ℕ) → width ≤ len → leb at (len - width) ≡ leb (at + width) len
-by_the_rest at width len h = go (leb at (len - width)) refl
-  where
-    go : (b : Bool) → leb at (len - width) ≡ b → b ≡ leb (at + width) len
-    go true e = let l = leb-true at (len - width) e in rw (le-leb (at + width) len (omega arith))
-    go false e = let l = leb-false at (len - width) e in rw (lt-leb (at + width) len (omega arith))
-
 module _ (holes : List ℕ) (c : Cursor) where
-  pub no_hole_left : leb (c.hole + 8) (length holes) ≡ false → false ≡ hole_here holes c
-  no_hole_left e = rw e
-
-  module _ (left : leb (c.hole + 8) (length holes) ≡ true) where
-    pub hole_later : c.tick < u32_at holes c.hole → false ≡ hole_here holes c
-    hole_later h = rw (left, lt-leb (u32_at holes c.hole) c.tick h)
-
-    pub hole_begun : u32_at holes c.hole ≤ c.tick → leb c.tick (u32_at holes (c.hole + 4)) ≡ hole_here holes c
-    hole_begun h = rw (left, le-leb (u32_at holes c.hole) c.tick h)
-
   pub ends_inside : (to last : ℕ) → last ≡ u32_at holes (c.hole + 4) → to ≤ last → record { hole = c.hole; sample = c.sample; tick = to } ≡ past_run holes c to
   ends_inside to last e l = rw (le-leb to (u32_at holes (c.hole + 4)) (omega arith))
 
@@ -42,19 +23,19 @@ module _ (holes : List ℕ) (c : Cursor) where
   ends_with to last e l = rw (lt-leb to (u32_at holes (c.hole + 4)) (omega arith), e)
 
 module _ (holes samples : List ℕ) (width : ℕ) (c : Cursor) (to : ℕ) where
-  pub at_the_end : to ≤ c.tick → End ≡ ahead holes samples width c to
+  pub at_the_end : to ≤ c.tick → None ≡ ahead holes samples width c to
   unfolding ahead
   at_the_end h = rw (le-leb to c.tick h)
 
-  pub unseen_ahead : c.tick < to → hole_here holes c ≡ true → Unseen (past_run holes c to) ≡ ahead holes samples width c to
+  pub unseen_ahead : c.tick < to → hole_here holes c ≡ true → Some (Unseen (past_run holes c to)) ≡ ahead holes samples width c to
   unfolding ahead
   unseen_ahead h e = rw (lt-leb to c.tick h, e)
 
-  pub sample_ahead : c.tick < to → hole_here holes c ≡ false → leb (c.sample + width) (length samples) ≡ true → Sample (past_sample width c) ≡ ahead holes samples width c to
+  pub sample_ahead : c.tick < to → hole_here holes c ≡ false → leb (c.sample + width) (length samples) ≡ true → Some (Sample (past_sample width c)) ≡ ahead holes samples width c to
   unfolding ahead
   sample_ahead h e f = rw (lt-leb to c.tick h, e, f)
 
-  pub none_ahead : c.tick < to → hole_here holes c ≡ false → leb (c.sample + width) (length samples) ≡ false → End ≡ ahead holes samples width c to
+  pub none_ahead : c.tick < to → hole_here holes c ≡ false → leb (c.sample + width) (length samples) ≡ false → None ≡ ahead holes samples width c to
   unfolding ahead
   none_ahead h e f = rw (lt-leb to c.tick h, e, f)
 

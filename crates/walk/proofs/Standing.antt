@@ -18,17 +18,18 @@ use Rattle.ticks.specs.inner.Places.{Place, NotYet}
 use Rattle.ticks.proofs.Places.{in_hole_lem, hole_stays, no_sample, at_sample}
 use Rattle.walk.specs.declared.Cursor.{Cursor}
 use Rattle.walk.specs.declared.Ahead.{Ahead}
-use Rattle.walk.specs.declared.Ahead.TheVariants.{Unseen, Sample, End}
+use Rattle.std.specs.Prelude.{Option, Some, None}
+use Rattle.walk.specs.declared.Ahead.TheVariants.{Unseen, Sample}
 use Rattle.walk.specs.Walk.{hole_here, past_run, past_sample, ahead}
 use Rattle.walk.specs.inner.Places.{shows, Stands, Missed, Passed}
 use Rattle.walk.proofs.Looking.{hole_holds, at_the_end, unseen_ahead, sample_ahead, none_ahead}
 
 -- The three things that can come next, each with its tests.
-data Found (holes samples : List ℕ) (width : ℕ) (c : Cursor) (to : ℕ) : Ahead → Type 0 where
-  arrived : to ≤ c.tick → Found holes samples width c to End
-  run : c.tick < to → hole_here holes c ≡ true → Found holes samples width c to (Unseen (past_run holes c to))
-  taken : c.tick < to → hole_here holes c ≡ false → c.sample + width ≤ length samples → Found holes samples width c to (Sample (past_sample width c))
-  none : c.tick < to → hole_here holes c ≡ false → length samples < c.sample + width → Found holes samples width c to End
+data Found (holes samples : List ℕ) (width : ℕ) (c : Cursor) (to : ℕ) : Option Ahead → Type 0 where
+  arrived : to ≤ c.tick → Found holes samples width c to None
+  run : c.tick < to → hole_here holes c ≡ true → Found holes samples width c to (Some (Unseen (past_run holes c to)))
+  taken : c.tick < to → hole_here holes c ≡ false → c.sample + width ≤ length samples → Found holes samples width c to (Some (Sample (past_sample width c)))
+  none : c.tick < to → hole_here holes c ≡ false → length samples < c.sample + width → Found holes samples width c to None
 
 found : (holes samples : List ℕ) (width : ℕ) (c : Cursor) (to : ℕ) → Found holes samples width c to (ahead holes samples width c to)
 found holes samples width c to = end (leb to c.tick) refl
@@ -49,13 +50,13 @@ abbrev NotBoth : Type 0
 NotBoth = ◌≡◌ {A = ℕ} 0 1
 
 module _ {holes samples : List ℕ} {width : ℕ} {c : Cursor} {to : ℕ} where
-  is_run : {a : Ahead} → Found holes samples width c to a → (d : Cursor) → a ≡ Unseen d → (c.tick < to) × (hole_here holes c ≡ true) × (past_run holes c to ≡ d)
+  is_run : {a : Option Ahead} → Found holes samples width c to a → (d : Cursor) → a ≡ Some (Unseen d) → (c.tick < to) × (hole_here holes c ≡ true) × (past_run holes c to ≡ d)
   is_run (arrived l) d e = let z : NotBoth = cc in absurd (omega arith)
   is_run (run l h) d e = (l, h, cc)
   is_run (taken l h f) d e = let z : NotBoth = cc in absurd (omega arith)
   is_run (none l h f) d e = let z : NotBoth = cc in absurd (omega arith)
 
-  is_taken : {a : Ahead} → Found holes samples width c to a → (d : Cursor) → a ≡ Sample d
+  is_taken : {a : Option Ahead} → Found holes samples width c to a → (d : Cursor) → a ≡ Some (Sample d)
       → (c.tick < to) × (hole_here holes c ≡ false) × (c.sample + width ≤ length samples) × (past_sample width c ≡ d)
   is_taken (arrived l) d e = let z : NotBoth = cc in absurd (omega arith)
   is_taken (run l h) d e = let z : NotBoth = cc in absurd (omega arith)
@@ -74,12 +75,12 @@ run_goes_on holes c to l h = go (leb to (u32_at holes (c.hole + 4))) refl
         rw e (omega arith, omega arith)
 
 module _ (holes samples : List ℕ) (width : ℕ) (c : Cursor) (to : ℕ) {d : Cursor} where
-  pub unseen_goes_on : Unseen d ≡ ahead holes samples width c to → (c.tick < d.tick) × (d.tick ≤ to)
+  pub unseen_goes_on : Some (Unseen d) ≡ ahead holes samples width c to → (c.tick < d.tick) × (d.tick ≤ to)
   unseen_goes_on e =
       let (l, h, p) = is_run (found holes samples width c to) d (sym e) in
       subst (λ (y : Cursor). (c.tick < y.tick) × (y.tick ≤ to)) p (run_goes_on holes c to l h)
 
-  pub sample_goes_on : Sample d ≡ ahead holes samples width c to → (c.tick < d.tick) × (d.tick ≤ to) × (c.sample + width ≤ length samples)
+  pub sample_goes_on : Some (Sample d) ≡ ahead holes samples width c to → (c.tick < d.tick) × (d.tick ≤ to) × (c.sample + width ≤ length samples)
   sample_goes_on e =
       let (l, h, f, p) = is_taken (found holes samples width c to) d (sym e) in
       subst (λ (y : Cursor). (c.tick < y.tick) × (y.tick ≤ to) × (c.sample + width ≤ length samples)) p (omega arith, omega arith, f)
@@ -168,7 +169,7 @@ module _ {n : ℕ} {holes samples : List ℕ} {m : ℕ} {c : Cursor} (g : Stands
         hidden = hid;
       })
 
-  pub missed : (to : ℕ) → to ≤ m → {d : Cursor} → ahead holes samples (sample_width n) c to ≡ Unseen d → Missed n holes samples m c d to
+  pub missed : (to : ℕ) → to ≤ m → {d : Cursor} → ahead holes samples (sample_width n) c to ≡ Some (Unseen d) → Missed n holes samples m c d to
   missed to k {d} e =
       let (l, f, p) = is_run (found holes samples (sample_width n) c to) d e in
       let (lies, begun, lasts) = hole_holds holes c f in
@@ -211,16 +212,16 @@ module _ {n : ℕ} {holes samples : List ℕ} {m : ℕ} {c : Cursor} (g : Stands
         shown = here c.tick (omega arith) ∙ ap (λ (y : Bool). cond y (seen x.sample) (shown_in ys c.tick)) (eq-eqb x.tick c.tick a);
       }
 
-  pub passed : (to : ℕ) → to ≤ m → {d : Cursor} → ahead holes samples (sample_width n) c to ≡ Sample d → Passed n holes samples m c d to
+  pub passed : (to : ℕ) → to ≤ m → {d : Cursor} → ahead holes samples (sample_width n) c to ≡ Some (Sample d) → Passed n holes samples m c d to
   passed to k {d} e =
       let (l, f, i, p) = is_taken (found holes samples (sample_width n) c to) d e in
       subst (λ (y : Cursor). Passed n holes samples m c y to) p (sample_past to l k f)
 
-  is_end : (to : ℕ) → to ≤ m → {a : Ahead} → Found holes samples (sample_width n) c to a → a ≡ End → to ≤ c.tick
+  is_end : (to : ℕ) → to ≤ m → {a : Option Ahead} → Found holes samples (sample_width n) c to a → a ≡ None → to ≤ c.tick
   is_end to k (arrived l) e = l
   is_end to k (run l f) e = let z : NotBoth = cc in absurd (omega arith)
   is_end to k (taken l f i) e = let z : NotBoth = cc in absurd (omega arith)
   is_end to k (none l f i) e = let p = (sample_past to l k f).there in absurd (omega arith)
 
-  pub ended : (to : ℕ) → to ≤ m → ahead holes samples (sample_width n) c to ≡ End → to ≤ c.tick
+  pub ended : (to : ℕ) → to ≤ m → ahead holes samples (sample_width n) c to ≡ None → to ≤ c.tick
   ended to k e = is_end to k (found holes samples (sample_width n) c to) e

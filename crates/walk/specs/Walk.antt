@@ -1,9 +1,9 @@
 -- What comes next at a place of the walk over the ticks of a trace.
-use Rattle.std.specs.Prelude.{ℕ, ◌+◌, Bool, cond, ◌&&◌, List, leb, length}
+use Rattle.std.specs.Prelude.{ℕ, ◌+◌, Bool, cond, ◌&&◌, List, leb, length, Option, Some, None}
 use Rattle.bytes_le.specs.Numbers.{u32_at}
 use Rattle.walk.specs.declared.Cursor.{Cursor}
 use Rattle.walk.specs.declared.Ahead.{Ahead}
-use Rattle.walk.specs.declared.Ahead.TheVariants.{Unseen, Sample, End}
+use Rattle.walk.specs.declared.Ahead.TheVariants.{Unseen, Sample}
 
 -- Where a walk begins.
 abbrev pub start_of : Cursor
@@ -26,8 +26,8 @@ abbrev pub past_sample : ℕ → Cursor → Cursor
 past_sample width c = record { hole = c.hole; sample = c.sample + width; tick = c.tick + 1 }
 
 -- What comes next before the tick `to`: unseen ticks, else a sample of a width, else the end.
-unfoldable pub ahead : List ℕ → List ℕ → ℕ → Cursor → ℕ → Ahead
+unfoldable pub ahead : List ℕ → List ℕ → ℕ → Cursor → ℕ → Option Ahead
 ahead holes samples width c to =
-    cond (leb to c.tick) End
-    (cond (hole_here holes c) (Unseen (past_run holes c to))
-    (cond (leb (c.sample + width) (length samples)) (Sample (past_sample width c)) End))
+    cond (leb to c.tick) None
+    (cond (hole_here holes c) (Some (Unseen (past_run holes c to)))
+    (cond (leb (c.sample + width) (length samples)) (Some (Sample (past_sample width c))) None))

@@ -6,7 +6,7 @@ ghost use Rattle.std.specs.Prelude.{◌≡◌, ◌+◌, ◌<◌, ◌^◌, leb, l
 ghost use Rattle.walk.specs.Walk.{start_of, hole_here, past_run, past_sample, ahead};
 
 // A place: the bytes of the next hole and of the next sample in their parts, and the next tick, which may lie inside that hole.
-#[derive(Clone, Copy)]
+#[derive(Clone, Copy, Debug, PartialEq, Eq)]
 pub struct Cursor {
     pub hole: usize,
     pub sample: usize,
@@ -14,11 +14,10 @@ pub struct Cursor {
 }
 
 // What comes next, with the place after it.
-#[derive(Clone, Copy)]
+#[derive(Clone, Copy, Debug, PartialEq, Eq)]
 pub enum Ahead {
     Unseen(Cursor),
     Sample(Cursor),
-    End,
 }
 
 // Where a walk begins.
@@ -36,10 +35,7 @@ pub fn start() -> Cursor
 fn lies_within(at: usize, width: usize, len: usize) -> bool
     ensures { result ≡ leb (at + width) len }
 {
-    if len < width {
-        return false;
-    }
-    at <= len - width
+    width <= len && at <= len - width
 }
 
 // Whether the next hole holds the next tick.
@@ -47,12 +43,9 @@ fn hole_here(holes: &[u8], c: Cursor) -> bool
     ensures { result ≡ hole_here holes.now c }
 {
     let at = c.hole;
-    if lies_within(at, 8, holes.len()) {
-        if bytes_le::u32_at(holes, at) <= c.tick {
-            return c.tick <= bytes_le::u32_at(holes, at + 4);
-        }
-    }
-    false
+    lies_within(at, 8, holes.len())
+        && bytes_le::u32_at(holes, at) <= c.tick
+        && c.tick <= bytes_le::u32_at(holes, at + 4)
 }
 
 // The place after the unseen ticks of the next hole, up to the tick `to`.
@@ -62,16 +55,12 @@ fn past_run(holes: &[u8], c: Cursor, to: u32) -> Cursor
 {
     let last = bytes_le::u32_at(holes, c.hole + 4);
     if to <= last {
-        return Cursor {
-            hole: c.hole,
-            sample: c.sample,
-            tick: to,
-        };
+        return Cursor { tick: to, ..c };
     }
     Cursor {
         hole: c.hole + 8,
-        sample: c.sample,
         tick: last + 1,
+        ..c
     }
 }
 
@@ -81,26 +70,26 @@ fn past_sample(c: Cursor, width: usize) -> Cursor
     ensures { result ≡ past_sample width c }
 {
     Cursor {
-        hole: c.hole,
         sample: c.sample + width,
         tick: c.tick + 1,
+        ..c
     }
 }
 
 // What comes next before the tick `to`: unseen ticks of a hole, up to its end or to `to`, else a sample of a width, else the end. A part of
 // the judge and of the feed, which lend the parts of an accepted trace: a hole or a sample that is cut off counts as none, and a sample's
 // own tick is not read.
-pub fn look_ahead(holes: &[u8], samples: &[u8], width: usize, c: Cursor, to: u32) -> Ahead
+pub fn look_ahead(holes: &[u8], samples: &[u8], width: usize, c: Cursor, to: u32) -> Option<Ahead>
     ensures { result ≡ ahead holes.now samples.now width c to }
 {
     if to <= c.tick {
-        return Ahead::End;
+        return None;
     }
     if hole_here(holes, c) {
-        return Ahead::Unseen(past_run(holes, c, to));
+        return Some(Ahead::Unseen(past_run(holes, c, to)));
     }
     if lies_within(c.sample, width, samples.len()) {
-        return Ahead::Sample(past_sample(c, width));
+        return Some(Ahead::Sample(past_sample(c, width)));
     }
-    Ahead::End
+    None
 }

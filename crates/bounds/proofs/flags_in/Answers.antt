@@ -1,7 +1,9 @@
 use Rattle.bounds.specs.Steps.{flags_of_states}
-use mathlib.Core.Path.{refl}
+use mathlib.Core.Path.{refl, ap₂, ◌∙◌}
+use lib.ListN.{get_or}
+use Rattle.fillings.specs.Bounds.{flags_between}
+use Rattle.bounds.proofs.Halves.{taken}
 use borrow.Author.Tests.{eq-eqb, ne_eqb}
-use native.Mathlib.Omega.{arith}
 use Rattle.lists.proofs.Laying.{laying_start, laying_next, laying_end}
 use Rattle.rules.specs.Table.{row_at}
 use Rattle.bounds.proofs.flags_in.Goals as goal
@@ -13,14 +15,11 @@ returns-then-states-ne32 c = rw (ne_eqb _ _ c.if-states-ne32.true) refl
 pub loop-i-init : goal.loop-i-init
 loop-i-init c = laying_start _ 16 _ _ refl
 
-pub bounds-states-i : goal.bounds-states-i
-bounds-states-i c = omega (arith, c.if-states-ne32.false)
-
-pub bounds-states-i-in-loop-i : goal.bounds-states-i-in-loop-i
-bounds-states-i-in-loop-i c = omega (arith, c.if-states-ne32.false)
-
 pub loop-i-preserved : goal.loop-i-preserved
-loop-i-preserved c = laying_next _ 16 _ _ c.loop-i.invariant c.loop-i-test.true (c.rule_flags.ensures (row_at c.loop-i.i))
+loop-i-preserved c = let h = taken c.split_at.ensures.front c.split_at.ensures.back in
+    let i = c.loop-i.i in
+    laying_next _ 16 _ _ c.loop-i.invariant c.loop-i-test.true
+    (c.rule_flags.ensures (row_at i) ∙ ap₂ (flags_between (row_at i) (get_or c.args.lanes.now i 0)) (h.low_at i c.loop-i-test.true) (h.high_at i))
 
 pub returns : goal.returns
 unfolding flags_of_states

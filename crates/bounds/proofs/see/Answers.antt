@@ -1,32 +1,56 @@
-use Rattle.bounds.proofs.Moving.{states_seen_lem, within_32, firsts_noted_lem, firsts_kept}
-use mathlib.Core.Path.{refl, ap, ◌∙◌}
-use native.Mathlib.Omega.{arith}
-use Prim.Native.Nat.{◌*◌}
-use borrow.Author.Tests.{eq-eqb, ne_eqb, le-leb, lt-leb}
+use Rattle.bounds.specs.Steps.{readable, states_seen, Within32}
+use Rattle.bounds.specs.Firsts.{rules_rise}
+use Rattle.bounds.specs.inner.Marks.{trips_of}
+use Rattle.bounds.proofs.Halves.{taken}
+use Rattle.bounds.proofs.Seeing.{moved_long, within_32, states_seen_lem, risen, firsts_noted_lem, firsts_kept}
+use Rattle.lists.specs.Lists.{some_below}
+use mathlib.Core.Bool.{true}
+use mathlib.Core.List.{◌++◌}
+use mathlib.Core.Path.{◌≡◌, refl, ap, ap₂, ◌∙◌}
+use Prim.Native.Nat.{ℕ, ◌*◌}
+use lib.ListN.{length}
+use borrow.Author.Tests.{eq-eqb, le-leb}
 use Rattle.bounds.proofs.see.Goals as goal
+use Rattle.bounds.proofs.see.Goals.{After-move_states}
 
-pub returns-then-r-gt2147483647 : goal.returns-then-r-gt2147483647
-returns-then-r-gt2147483647 c = record { states = rw (lt-leb _ _ c.if-r-gt2147483647.true); firsts = rw (lt-leb _ _ c.if-r-gt2147483647.true); within = rw (lt-leb _ _ c.if-r-gt2147483647.true) (λ t. absurd t) }
+-- what both returns share
+ready : (c : After-move_states) → readable c.args.r c.args.states.now c.args.firsts.now ≡ true
+ready c = rw (le-leb _ _ c.if-r-gt-GREATEST_SUM.false, eq-eqb _ _ c.if-states-ne32.false, eq-eqb _ _ c.if-firsts-ne32.false) refl
 
-pub returns-then-states-ne32 : goal.returns-then-states-ne32
-returns-then-states-ne32 c = record { states = rw (le-leb _ _ c.if-r-gt2147483647.false, ne_eqb _ _ c.if-states-ne32.true); firsts = rw (le-leb _ _ c.if-r-gt2147483647.false, ne_eqb _ _ c.if-states-ne32.true); within = rw (le-leb _ _ c.if-r-gt2147483647.false, ne_eqb _ _ c.if-states-ne32.true) (λ t. absurd t) }
+moved : (c : After-move_states) → c.move_states.new.least ++ c.move_states.new.greatest
+    ≡ states_seen c.args.tests.now c.args.lanes.now c.args.idle c.args.tick c.args.r c.args.states.now
+moved c = let s = c.split_at_mut-least.ensures in
+    ap₂ ◌++◌ c.move_states.ensures.least c.move_states.ensures.greatest
+    ∙ states_seen_lem c.args.r c.values_of.result c.values_of.ensures c.args.tests.now c.args.lanes.now c.args.idle c.args.tick c.marks_of-marks.result
+    (c.marks_of-marks.ensures.trips ∙ ap (λ (f : ℕ). trips_of c.values_of.result (16 * f) c.args.tests.now) c.flow_of.ensures.0) c.marks_of-marks.ensures.clears (taken s.front s.back)
 
-pub returns-then-firsts-ne32 : goal.returns-then-firsts-ne32
-returns-then-firsts-ne32 c = record { states = rw (le-leb _ _ c.if-r-gt2147483647.false, eq-eqb _ _ c.if-states-ne32.false, ne_eqb _ _ c.if-firsts-ne32.true); firsts = rw (le-leb _ _ c.if-r-gt2147483647.false, eq-eqb _ _ c.if-states-ne32.false, ne_eqb _ _ c.if-firsts-ne32.true); within = rw (le-leb _ _ c.if-r-gt2147483647.false, eq-eqb _ _ c.if-states-ne32.false, ne_eqb _ _ c.if-firsts-ne32.true) (λ t. absurd t) }
+long : (c : After-move_states) → length c.move_states.new.least ≡ 16
+long c = ap length c.move_states.ensures.least ∙ moved_long _ _ _ _
 
-pub overflow_mul-base : goal.overflow_mul-base
-overflow_mul-base c = omega (arith, c.flow_of-base.ensures.1)
+rises : (c : After-move_states) → c.move_states.result
+    ≡ some_below 16 (rules_rise c.args.lanes.now c.args.states.now (c.move_states.new.least ++ c.move_states.new.greatest))
+rises c = let s = c.split_at_mut-least.ensures in
+    risen c.args.lanes.now c.args.tick c.args.states.now c.move_states.new.least c.move_states.new.greatest (long c) (taken s.front s.back) c.move_states.ensures.rises
+
+within : (c : After-move_states) → Within32 c.args.r
+within c = within_32 _ _ c.values_of.ensures c.marks_of-marks.ensures.within
 
 pub returns-then-move_states : goal.returns-then-move_states
-returns-then-move_states c = record {
-  states = rw (le-leb _ _ c.if-r-gt2147483647.false, eq-eqb _ _ c.if-states-ne32.false, eq-eqb _ _ c.if-firsts-ne32.false) (c.move_states.ensures.states ∙ states_seen_lem _ _ _ _ _ _ _ _ _ _ c.values_of-values.ensures (ap (16 *◌) c.flow_of-base.ensures.0) c.marks_of-marks.ensures.marks refl);
-  firsts = rw (le-leb _ _ c.if-r-gt2147483647.false, eq-eqb _ _ c.if-states-ne32.false, eq-eqb _ _ c.if-firsts-ne32.false) (firsts_noted_lem _ _ _ _ _ c.move_states.ensures.rises c.if-move_states.true c.note_states.ensures);
-  within = rw (le-leb _ _ c.if-r-gt2147483647.false, eq-eqb _ _ c.if-states-ne32.false, eq-eqb _ _ c.if-firsts-ne32.false) (λ t. within_32 _ _ c.values_of-values.ensures c.marks_of-marks.ensures.least c.marks_of-marks.ensures.greatest);
-}
+returns-then-move_states c = let d = (goal.at.returns-then-move_states c).After-move_states in
+    let f = c.split_at_mut-held.ensures in record {
+      states = rw (ready d) (moved d);
+      firsts = rw (ready d)
+          (ap₂ ◌++◌ c.note_states.ensures c.note_states-then-move_states.ensures
+          ∙ firsts_noted_lem c.args.lanes.now c.args.tick c.args.states.now c.move_states.new.least c.move_states.new.greatest (long d) (rises d)
+          c.if-move_states.true (taken f.front f.back));
+      within = λ t. within d;
+    }
 
 pub returns-else-move_states : goal.returns-else-move_states
-returns-else-move_states c = record {
-  states = rw (le-leb _ _ c.if-r-gt2147483647.false, eq-eqb _ _ c.if-states-ne32.false, eq-eqb _ _ c.if-firsts-ne32.false) (c.move_states.ensures.states ∙ states_seen_lem _ _ _ _ _ _ _ _ _ _ c.values_of-values.ensures (ap (16 *◌) c.flow_of-base.ensures.0) c.marks_of-marks.ensures.marks refl);
-  firsts = rw (le-leb _ _ c.if-r-gt2147483647.false, eq-eqb _ _ c.if-states-ne32.false, eq-eqb _ _ c.if-firsts-ne32.false) (firsts_kept _ _ _ _ _ c.move_states.ensures.rises c.if-move_states.false);
-  within = rw (le-leb _ _ c.if-r-gt2147483647.false, eq-eqb _ _ c.if-states-ne32.false, eq-eqb _ _ c.if-firsts-ne32.false) (λ t. within_32 _ _ c.values_of-values.ensures c.marks_of-marks.ensures.least c.marks_of-marks.ensures.greatest);
+returns-else-move_states c = let d = (goal.at.returns-else-move_states c).After-move_states in record {
+  states = rw (ready d) (moved d);
+  firsts = rw (ready d)
+      (firsts_kept c.args.lanes.now c.args.tick c.args.states.now c.move_states.new.least c.move_states.new.greatest (long d) c.args.firsts.now (rises d)
+      c.if-move_states.false);
+  within = λ t. within d;
 }

@@ -1,10 +1,7 @@
 -- What the inner functions of the live feed answer of lists that a caller keeps.
-use Rattle.std.specs.Prelude.{ℕ, ◌≡◌, Bool, true, false, ◌&&◌, List, leb, eqb, length, get_or}
-use Rattle.refusals.specs.declared.Refusal.{Refusal}
+use Rattle.std.specs.Prelude.{ℕ, ◌≡◌, Bool, true, false, ◌&&◌, List, leb, eqb, length, get_or, Option, Some, None}
 use Rattle.report.specs.declared.Totals.{Totals}
 use Rattle.live.specs.declared.Live.{Live}
-use Rattle.live.specs.declared.Step.{Step}
-use Rattle.live.specs.declared.Fed.TheVariants.{Taken, Refused}
 use Rattle.live.specs.State.{good}
 use Rattle.buttmitrel_live.specs.Live.{is_kept}
 
@@ -17,11 +14,12 @@ abbrev pub totals_of : List ℕ → Totals
 totals_of totals = record { charge_in = get_or totals 0 0; charge_out = get_or totals 1 0; unseen = get_or totals 2 0; ticks = get_or totals 3 0 }
 
 -- A state with the words and the totals of lists, where they can be a state's.
-pub record Filled (r : Step) (begun : Live) (words totals : List ℕ) : Type 0 where
-  pub full : r.answer ≡ Taken → (length words ≡ 80) × (are_totals totals ≡ true) × (r.state ≡ record { cells = begun.cells; idle = begun.idle; settings = begun.settings; states = record { words = words }; totals = totals_of totals })
-  pub unfull : (why : Refusal) → r.answer ≡ Refused why → (eqb (length words) 80 && are_totals totals) ≡ false
+abbrev pub Filled : Option Live → Live → List ℕ → List ℕ → Type 0
+Filled (Some s) begun words totals =
+    (length words ≡ 80) × (are_totals totals ≡ true) × (s ≡ record { cells = begun.cells; idle = begun.idle; settings = begun.settings; states = record { words = words }; totals = totals_of totals })
+Filled None begun words totals = (eqb (length words) 80 && are_totals totals) ≡ false
 
 -- A state that is loaded from lists, or that is no good one.
-pub record Loaded (r : Step) (rules words totals : List ℕ) (s : Live) : Type 0 where
-  pub kept : r.answer ≡ Taken → (is_kept rules totals ≡ true) × (length words ≡ 80) × (length totals ≡ 4) × (r.state ≡ s)
-  pub unkept : (why : Refusal) → r.answer ≡ Refused why → (is_kept rules totals && good s) ≡ false
+abbrev pub Loaded : Option Live → List ℕ → List ℕ → List ℕ → Live → Type 0
+Loaded (Some r) rules words totals s = (is_kept rules totals ≡ true) × (length words ≡ 80) × (length totals ≡ 4) × (r ≡ s)
+Loaded None rules words totals s = (is_kept rules totals && good s) ≡ false

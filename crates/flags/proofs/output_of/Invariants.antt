@@ -4,6 +4,3 @@ use Rattle.flags.proofs.output_of.Given as goal
 
 abbrev pub invariant-loop-i : goal.invariant-loop-i
 invariant-loop-i l = Driven (drivers l.o) l.flags.of l.found l.i
-
-abbrev pub decreases-loop-i : goal.decreases-loop-i
-decreases-loop-i l = l.i

@@ -1,13 +1,9 @@
-use mathlib.Core.Path.{refl}
-use borrow.Author.Rules.{rules}
-use Rattle.lines.proofs.HexLines.{hexing_start, hexing_next, hexing_end}
+use mathlib.Core.Path.{◌≡◌}
+use Rattle.hex.specs.Hex.{encode_lower}
+use Rattle.lines.proofs.HexLines.{line_encoded}
 use Rattle.lines.proofs.hex_line.Goals as goal
 
-pub loop-i-init : goal.loop-i-init
-loop-i-init c = hexing_start _ _ refl refl
-
-pub loop-i-preserved : goal.loop-i-preserved
-loop-i-preserved c = hexing_next _ _ (search rules) c.loop-i.invariant c.loop-i-test.true c.hex_digit.ensures c.hex_digit-in-loop-i.ensures
-
 pub returns : goal.returns
-returns c = hexing_end (search rules) c.loop-i.invariant c.loop-i-test.false
+returns c =
+    let written : c.encode_to_slice.new.output ≡ encode_lower c.args.report.now = rw c.unwrap.ensures at c.encode_to_slice.ensures.written in
+    line_encoded _ _ c.fits-report written

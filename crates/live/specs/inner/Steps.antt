@@ -1,15 +1,14 @@
 -- What the inner functions of the feed answer.
 use Rattle.std.specs.Prelude.{ℕ, ◌+◌, ◌-◌, suc, ◌≡◌, ℤ}
-use Rattle.refusals.specs.Refusals.{Answer, or_kept}
+use Rattle.refusals.specs.Refusals.{Answer, answer_of, or_kept}
 use Rattle.fillings.specs.Charge.{inward, outward}
 use Rattle.report.specs.declared.Totals.{Totals}
 use Rattle.live.specs.declared.Live.{Live}
 use Rattle.live.specs.declared.Step.{Step}
-use Rattle.live.specs.Calls.{answer_of_fed}
 
 -- A call's answer and state: a new state where it is taken, the old one where it is refused.
 pub record Stepped (r : Step) (a : Answer (Unit {0})) (new old : Live) : Type 0 where
-  pub answer : answer_of_fed r.answer ≡ a
+  pub answer : answer_of r.answer ≡ a
   pub state : r.state ≡ or_kept a (λ taken. new) old
 
 -- The totals after a sample.

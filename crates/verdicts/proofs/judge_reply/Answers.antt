@@ -1,19 +1,19 @@
-use mathlib.Core.Path.{refl, sym, ap, ◌∙◌}
-use Rattle.pec.specs.Reply.{answer_of_check}
-use Rattle.verdicts.proofs.Cases.{checked_six, wrong_verdict, whole_verdict, refused_verdict}
+use mathlib.Core.Path.{ap, sym, ◌∙◌}
+use Rattle.std.proofs.lemmas.Result.{err_from_is_err_and}
+use Rattle.pec.specs.Reply as reply
+use Rattle.refusals.specs.Refusals.{answer}
+use Rattle.verdicts.proofs.Cases.{answered_verdict, refused_verdict}
 use Rattle.verdicts.proofs.judge_reply.Goals as goal
 
-pub judge_whole-requires : goal.judge_whole-requires
-judge_whole-requires c = (checked_six c.args.reply.now 0 (sym (ap answer_of_check c.in-Intact.is) ∙ c.check.ensures)).0
-
-pub returns-in-Refused : goal.returns-in-Refused
-returns-in-Refused c = refused_verdict _ _ _ _ _ (sym (ap answer_of_check c.in-Refused.is) ∙ c.check.ensures)
+pub returns-in_err-check : goal.returns-in_err-check
+returns-in_err-check c = let p = err_from_is_err_and c.from_residual.result c.from_residual.ensures.1 in
+    rw (p.1, p.2) (refused_verdict _ _ _ _ _ c.in_err-check.ensures)
 
 pub returns-in-WrongAddress : goal.returns-in-WrongAddress
-returns-in-WrongAddress c = wrong_verdict _ _ _ 1 refl (sym (ap answer_of_check c.in-WrongAddress.is) ∙ c.check.ensures)
+returns-in-WrongAddress c = answered_verdict _ _ _ 1 (ap (λ k. answer (reply.number_of k)) (sym c.in-WrongAddress.is) ∙ c.in_ok-check.ensures)
 
 pub returns-in-WrongCode : goal.returns-in-WrongCode
-returns-in-WrongCode c = wrong_verdict _ _ _ 2 refl (sym (ap answer_of_check c.in-WrongCode.is) ∙ c.check.ensures)
+returns-in-WrongCode c = answered_verdict _ _ _ 2 (ap (λ k. answer (reply.number_of k)) (sym c.in-WrongCode.is) ∙ c.in_ok-check.ensures)
 
 pub returns-in-Intact : goal.returns-in-Intact
-returns-in-Intact c = c.judge_whole.ensures ∙ whole_verdict _ _ _ (sym (ap answer_of_check c.in-Intact.is) ∙ c.check.ensures)
+returns-in-Intact c = ap answer c.judge_whole.ensures ∙ answered_verdict _ _ _ 0 (ap (λ k. answer (reply.number_of k)) (sym c.in-Intact.is) ∙ c.in_ok-check.ensures)

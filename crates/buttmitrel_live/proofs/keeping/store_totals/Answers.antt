@@ -1,5 +1,6 @@
-use Rattle.buttmitrel_live.proofs.KeptLists.{four_stored}
+use Rattle.buttmitrel.proofs.Codes.{all_stored}
+use Rattle.buttmitrel_live.specs.Live.{totals_list}
 use Rattle.buttmitrel_live.proofs.keeping.store_totals.Goals as goal
 
 pub returns : goal.returns
-returns c = four_stored c.args.totals.now _ _ c.requires c.wide.ensures c.wide-2.ensures
+returns c = all_stored (totals_list c.args.from) c.args.totals.now c.requires

@@ -3,7 +3,7 @@ use mathlib.Core.Bool.{Bool}
 use Prim.Native.Nat.{ℕ}
 use lib.Dec.{eqb, eqb→eq}
 use lib.ListN.{get_or}
-use borrow.Author.Rules.{rules}
+use mathlib.Core.Path.{ap, ◌∙◌}
 use Rattle.pec.specs.Code.{shifted, with_bit, with_bits, bits_of_bytes, pec_of}
 use Rattle.pec.proofs.Entries.{at}
 use Rattle.pec.proofs.table.entry.Goals as goal
@@ -32,4 +32,5 @@ right byte code = eqb code (pec_of (byte ∷ []))
 
 pub returns : goal.returns
 unfolding entries right shifted with_bit with_bits bits_of_bytes pec_of
-returns c = eqb→eq (get_or entries c.args.byte 0) (pec_of (c.args.byte ∷ [])) (at right entries tt c.args.byte (search rules))
+returns c = ap (λ (k : ℕ). get_or entries k 0) c.from.ensures
+    ∙ eqb→eq (get_or entries c.args.byte 0) (pec_of (c.args.byte ∷ [])) (at right entries tt c.args.byte c.ranges.byte.fits)

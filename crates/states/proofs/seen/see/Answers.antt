@@ -1,25 +1,28 @@
-use mathlib.Core.Path.{sym, ◌∙◌}
-use native.Mathlib.Omega.{arith}
-use Rattle.states.proofs.EachRule.{moving_start, moving_length}
-use Rattle.states.proofs.RuleSteps.{seeing_next, seeing_end, seen_kept}
+use mathlib.Core.Path.{◌∙◌}
 use Rattle.rules.proofs.Rows.{row_of}
+use Rattle.limits.specs.Limits.{setting_of}
+use Rattle.states.proofs.EachRule.{moving_start}
+use Rattle.states.proofs.RuleSteps.{moves_on, seeing_moved, seeing_stays, seeing_end}
 use Rattle.states.proofs.seen.see.Goals as goal
-
-pub returns-then-words-ne80 : goal.returns-then-words-ne80
-returns-then-words-ne80 c = seen_kept _ _ _ _ _ c.if-words-ne80.true
+use Rattle.states.proofs.seen.see.Goals.{then-moves_by, else-moves_by}
 
 pub loop-i-init : goal.loop-i-init
-loop-i-init c = moving_start _ _ _ c.if-words-ne80.false
+loop-i-init c = moving_start _ _ _ c.told-words
 
-pub step_rule-requires : goal.step_rule-requires
-step_rule-requires c = (moving_length _ _ _ _ _ c.loop-i.invariant, omega arith)
+pub evaluated-requires : goal.evaluated-requires
+evaluated-requires c = moves_on (setting_of c.args.settings.of c.loop-i.i).time _ c.moves_by.ensures c.if-moves_by.true
 
 pub loop-i-preserved : goal.loop-i-preserved
 loop-i-preserved c = let a = c.args in
-    seeing_next a.settings.of a.idle a.tick a.readings a.words.now c.loop-i.words c.step_rule.new.words c.loop-i.i _ (row_of _ _ _ c.all_rows-table.ensures (omega arith)) c.loop-i.invariant (omega arith) c.step_rule.ensures
-
-pub shape_of-words : goal.shape_of-words
-shape_of-words c = moving_length _ _ _ _ _ c.loop-i.invariant ∙ sym c.loop-i.invariant.long
+    let l = c.loop-i in
+    elim c.if-moves_by.branch [
+      | then-moves_by w ↦
+          seeing_moved a.settings.of a.idle a.tick a.readings a.words.now l.words _ w.load-w.result w.evaluated.result l.i _ (row_of _ _ _ c.all_rows-table.ensures c.loop-i-test.true)
+          l.invariant c.loop-i-test.true c.moves_by.ensures w.if-moves_by.true w.load-w.ensures w.evaluated.ensures (w.words-is ∙ w.store.ensures)
+      | else-moves_by w ↦
+          seeing_stays a.settings.of a.idle a.tick a.readings a.words.now l.words _ l.i _ (row_of _ _ _ c.all_rows-table.ensures c.loop-i-test.true)
+          l.invariant c.loop-i-test.true c.moves_by.ensures w.if-moves_by.false w.words-is
+    ]
 
 pub returns : goal.returns
 returns c = seeing_end _ _ _ _ _ _ _ c.loop-i.invariant c.loop-i-test.false

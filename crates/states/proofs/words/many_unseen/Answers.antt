@@ -1,5 +1,6 @@
 use Prim.Native.Nat.{ℕ}
-use mathlib.Core.Path.{◌≡◌}
+use mathlib.Core.Path.{◌≡◌, ap}
+use mathlib.Core.Bool.{not}
 use lib.ListN.{get_or, length}
 use mir.Val.{Fits}
 use mir.Syntax.{w64}
@@ -31,10 +32,10 @@ returns-then-n-eq1 c = one_unseen c.args.w c.moved.result c.args.top c.args.n c.
 pub returns-then-some-recovers : goal.returns-then-some-recovers
 returns-then-some-recovers c = let a = c.args in
     some_move a.w a.top a.recovers c.requires.1.0 c.requires.1.1
-    c.below-low.result c.below-cut.result c.filled-up.result c.with_state.result a.n c.smaller-k.result
-    c.some.result c.test-held.result c.same.result
-    c.below-low.ensures c.some.ensures c.test-held.ensures c.if-some-recovers.true c.smaller-k.ensures c.below-cut.ensures
-    c.filled-up.ensures c.same.ensures c.with_state.ensures
+    c.below-low.result c.below-cut.result c.filled-up.result c.with_state.result a.n c.min-k.result
+    c.some.result c.test-held.result (not c.same.result)
+    c.below-low.ensures c.some.ensures c.test-held.ensures c.if-some-recovers.true c.min-k.ensures c.below-cut.ensures
+    c.filled-up.ensures (ap not c.same.ensures) c.with_state.ensures
     (low_long c) (λ j. (low_fits c j).fits) (cut_long c) (λ j. (cut_fits c j).fits) (search (rules, c.with_state.type_inv)) (λ j. (fits c j).fits)
 
 pub returns : goal.returns

@@ -19,9 +19,9 @@ returns c = let a = c.args in
     let kept = c.with_state-kept in
     let some = c.some in
     moved_made a.w low.result up.result kept.result c.with_state.result a.top
-    (record { up = a.up; restart = a.restart; leave = a.leave; stay = a.stay }) some.result (a.stay && held.result)
-    (a.restart && some.result || a.leave && held.result)
+    (record { up = a.moves.up; restart = a.moves.restart; leave = a.moves.leave; stay = a.moves.stay }) some.result (a.moves.stay && held.result)
+    (a.moves.restart && some.result || a.moves.leave && held.result)
     c.requires.0 c.requires.1 low.ensures up.ensures
-    (ap (λ (x : Bool). a.stay && x) held.ensures) kept.ensures some.ensures
-    (ap (λ (x : Bool). a.restart && some.result || a.leave && x) held.ensures)
+    (ap (λ (x : Bool). a.moves.stay && x) held.ensures) kept.ensures some.ensures
+    (ap (λ (x : Bool). a.moves.restart && some.result || a.moves.leave && x) held.ensures)
     c.with_state.ensures (search rules) (λ j. (fits c j).fits)

@@ -1,5 +1,5 @@
-use Rattle.states.proofs.ShiftedWords.{same_made}
 use borrow.Author.Rules.{rules}
+use Rattle.states.proofs.FiveWords.{same_made}
 use Rattle.states.proofs.words.same.Goals as goal
 
 pub returns : goal.returns

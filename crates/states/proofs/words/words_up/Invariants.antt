@@ -1,11 +1,7 @@
-use Prim.Native.Nat.{◌-◌, ◌≤◌}
 use mathlib.Core.Path.{◌≡◌}
 use lib.ListN.{length}
 use Rattle.states.specs.inner.Words.{WordsUp}
 use Rattle.states.proofs.words.words_up.Given as goal
 
-abbrev pub invariant-loop-i : goal.invariant-loop-i
-invariant-loop-i l = (l.i ≤ l.q) × (length l.w ≡ 5) × WordsUp l.initial.w l.i l.w
-
-abbrev pub decreases-loop-i : goal.decreases-loop-i
-decreases-loop-i l = l.q - l.i
+abbrev pub invariant-loop : goal.invariant-loop
+invariant-loop l = (length l.w ≡ 5) × WordsUp l.fn.w l.counter l.w

@@ -1,5 +1,3 @@
-use mathlib.Core.Path.{ap₂}
-use Rattle.totals.specs.declared.NetCharge.TheVariants.{Between}
 use Rattle.totals.proofs.NetBounds.{sure_exact, less_exact, more_exact}
 use Rattle.totals.proofs.net.bounds.Goals as goal
 
@@ -13,4 +11,4 @@ pub overflow_add-result : goal.overflow_add-result
 overflow_add-result c = (more_exact c.requires _ tt).fits
 
 pub returns : goal.returns
-returns c = ap₂ Between (less_exact c.requires 32768 tt).reads (more_exact c.requires 32767 tt).reads
+returns c = rw ((less_exact c.requires 32768 tt).reads, (more_exact c.requires 32767 tt).reads)

@@ -1,8 +1,8 @@
 use mathlib.Core.Path.{ap, ◌∙◌}
 use native.Mathlib.Omega.{arith}
 use Rattle.trace.proofs.Layouts.{holes_start}
-use Rattle.totals.specs.Totals.{answer_of_net}
-use Rattle.totals.proofs.AcceptedTotals.{parts, totalled, between_same}
+use Rattle.refusals.specs.Refusals.{answer}
+use Rattle.totals.proofs.AcceptedTotals.{parts, totalled, bounds_same}
 use Rattle.totals.proofs.net.net_of.Goals as goal
 
 pub slice_bounds-count_unseen-count : goal.slice_bounds-count_unseen-count
@@ -25,5 +25,5 @@ bounds-requires c = let t = (totalled _ _ c.requires (λ i. omega (arith, c.type
     (omega (arith, c.sum_charge-charge.ensures.inwards, t.small_in), omega (arith, c.sum_charge-charge.ensures.outwards, t.small_out), rw c.count_unseen-unseen.ensures t.small_unseen)
 
 pub returns : goal.returns
-returns c = ap answer_of_net (c.bounds.ensures ∙ between_same c.sum_charge-charge.ensures.inwards c.sum_charge-charge.ensures.outwards c.count_unseen-unseen.ensures)
+returns c = ap answer (c.bounds.ensures ∙ bounds_same c.sum_charge-charge.ensures.inwards c.sum_charge-charge.ensures.outwards c.count_unseen-unseen.ensures)
     ∙ ((totalled _ _ c.requires (λ i. omega (arith, c.type_inv.s i)))).net

@@ -1,7 +1,8 @@
 use Prim.Native.Nat.{◌<◌}
 use mathlib.Core.Path.{ap, sym, ◌∙◌}
 use native.Mathlib.Omega.{arith}
-use Rattle.totals.specs.Totals.{net_of, answer_of_net}
+use Rattle.refusals.specs.Refusals.{answer}
+use Rattle.totals.specs.Totals.{net_of}
 use Rattle.totals.proofs.NetBounds.{counted}
 use Rattle.totals.proofs.net.net_of_totals.Goals as goal
 
@@ -13,7 +14,7 @@ bounds-requires c = let a = c.args in
 
 pub returns-then-can_count : goal.returns-then-can_count
 unfolding net_of
-returns-then-can_count c = rw (sym c.can_count.ensures ∙ c.if-can_count.true) (ap answer_of_net c.bounds.ensures)
+returns-then-can_count c = rw (sym c.can_count.ensures ∙ c.if-can_count.true) (ap answer c.bounds.ensures)
 
 pub returns : goal.returns
 unfolding net_of

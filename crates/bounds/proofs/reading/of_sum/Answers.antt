@@ -1,7 +1,0 @@
-use native.Mathlib.Omega.{arith}
-use mir.Facts.{to_z_pos}
-use mir.Syntax.{w32}
-use Rattle.bounds.proofs.reading.of_sum.Goals as goal
-
-pub returns : goal.returns
-returns c = to_z_pos w32 (omega (arith, c.requires))

@@ -1,4 +1,0 @@
-use Rattle.states.proofs.validity.ends_below.Goals as goal
-
-pub returns : goal.returns
-returns c = rw c.below_word.ensures
