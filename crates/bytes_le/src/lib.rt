@@ -93,6 +93,9 @@ pub fn put_bytes(buffer: &mut [u8], at: usize, bytes: &[u8])
     ensures { buffer.new ≡ put_at buffer.old at bytes.now }
 {
     if at <= buffer.len() && bytes.len() <= buffer.len() - at {
-        buffer[at..at + bytes.len()].copy_from_slice(bytes);
+        // Byte by byte: a `copy_from_slice` calls memmove, which the recorder's library for C would then need from outside.
+        for (i, byte) in bytes.iter().enumerate() {
+            buffer[at + i] = *byte;
+        }
     }
 }

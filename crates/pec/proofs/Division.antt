@@ -66,7 +66,7 @@ bit_fits : (b : Bool) → cond b 128 0 < 256
 bit_fits true = omega arith
 bit_fits false = omega arith
 
-with_bit_fits : (r : ℕ) (b : Bool) → r < 256 → with_bit r b < 256
+pub with_bit_fits : (r : ℕ) (b : Bool) → r < 256 → with_bit r b < 256
 unfolding with_bit
 with_bit_fits r b h = shifted_fits (bit_xor r (cond b 128 0)) (xor_lt 8 r (cond b 128 0) h (bit_fits b))
 
@@ -143,6 +143,15 @@ with_bits_append : (r : ℕ) (a b : List Bool) → with_bits r (a ++ b) ≡ with
 unfolding with_bits
 with_bits_append r [] b = refl
 with_bits_append r (x ∷ a) b = with_bits_append (with_bit r x) a b
+
+with_bits_fits : (r : ℕ) (a : List Bool) → r < 256 → with_bits r a < 256
+unfolding with_bits
+with_bits_fits r [] h = h
+with_bits_fits r (x ∷ a) h = with_bits_fits (with_bit r x) a (with_bit_fits r x h)
+
+pub pec_fits : (s : List ℕ) → pec_of s < 256
+unfolding pec_of
+pec_fits s = with_bits_fits 0 (bits_of_bytes s) (omega arith)
 
 bytes_append : (a b : List ℕ) → bits_of_bytes (a ++ b) ≡ bits_of_bytes a ++ bits_of_bytes b
 unfolding bits_of_bytes

@@ -3,7 +3,7 @@ use Prim.Native.Nat.{ℕ, ◌/◌, ◌%◌, ◌<◌}
 use mathlib.Core.Path.{◌≡◌, refl, sym, ◌∙◌}
 use mathlib.Core.List.{List, [], ◌∷◌, ◌++◌}
 use native.Mathlib.Omega.{arith}
-use lib.ListN.{length, get_or, take, drop, set}
+use lib.ListN.{length, get_or, take, set}
 use borrow.Author.Tests.{eq-eqb}
 use Rattle.refusals.specs.Refusals.{answer}
 use Rattle.pec.specs.Code.{pec_of}
@@ -35,14 +35,13 @@ pub seal_check : (s : List ℕ) → length s ≡ 6 → (command word : ℕ) → 
 seal_check s h command word =
     rw (sealed_six s h command word) (sym (check_whole (body command word ++ (pec_of (body command word) ∷ [])) refl refl refl refl))
 
--- The buffer as `seal` leaves it: five bytes put over its first five, and their code over the sixth.
-pub stored : {t bytes : List ℕ} {code : ℕ} (s : List ℕ) (command word : ℕ) → length s ≡ 6 → word < 65536 → bytes ≡ word % 256 ∷ word / 256 % 256 ∷ []
-    → t ≡ 0x16 ∷ command ∷ 0x17 ∷ get_or bytes 0 0 ∷ get_or bytes 1 0 ∷ []
+-- The buffer as `seal` leaves it: five bytes stored one by one, and their code over the sixth.
+pub stored : {bytes : List ℕ} {code : ℕ} (s : List ℕ) (command word : ℕ) → length s ≡ 6 → word < 65536 → bytes ≡ word % 256 ∷ word / 256 % 256 ∷ []
     → code ≡ pec_of (0x16 ∷ command ∷ 0x17 ∷ get_or bytes 0 0 ∷ get_or bytes 1 0 ∷ [])
-    → set (t ++ drop 5 s) 5 code ≡ sealed command word s
-stored {t} {bytes} {code} s command word h w b p e =
+    → set (set (set (set (set (set s 0 0x16) 1 command) 2 0x17) 3 (get_or bytes 0 0)) 4 (get_or bytes 1 0)) 5 code ≡ sealed command word s
+stored {bytes} {code} s command word h w b e =
     let high : word / 256 % 256 ≡ word / 256 = omega arith in
-    let is_body : t ≡ body command word = p ∙ rw (b, high) in
     let is_code : code ≡ pec_of (body command word) = e ∙ rw (b, high) in
-    rw (is_body, is_code)
-    (six (λ s. set (body command word ++ drop 5 s) 5 (pec_of (body command word)) ≡ sealed command word s) (λ a b c d e f. sym (sealed_six (a ∷ b ∷ c ∷ d ∷ e ∷ f ∷ []) refl command word)) s h)
+    rw (is_code, b, high)
+    (six (λ s. set (set (set (set (set (set s 0 0x16) 1 command) 2 0x17) 3 (word % 256)) 4 (word / 256)) 5 (pec_of (body command word)) ≡ sealed command word s)
+    (λ a b c d e f. sym (sealed_six (a ∷ b ∷ c ∷ d ∷ e ∷ f ∷ []) refl command word)) s h)

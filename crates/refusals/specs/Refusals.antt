@@ -1,5 +1,5 @@
 -- Paper 01, 'Refusal numbers', and 17 of paper 02, item 1: the number and the place of each reason, and what a call answers in the paper's numbers.
-use Rattle.std.specs.Prelude.{ℕ, Bool, true, false, Result, Ok, Err}
+use Rattle.std.specs.Prelude.{ℕ, Bool, true, false, Result, Ok, Err, List, ◌++◌, codes, decimal}
 use Rattle.refusals.specs.declared.Refusal.{Refusal}
 use Rattle.refusals.specs.declared.Refusal.TheVariants.{TooShort, Version, CellCount, IdleCurrent, PastEnd, RuleCount, Limits, Hole, Coverage, ReplyTick, LeftOver, ReportLength, VerdictLength, InputLength, BufferLength, State, HoleCount}
 
@@ -42,6 +42,10 @@ place_of InputLength = 0
 place_of BufferLength = 0
 place_of State = 0
 place_of HoleCount = 0
+
+-- The text of a refusal, as programs write it: its number and its place in decimal.
+abbrev pub refusal_text : ℕ → ℕ → List ℕ
+refusal_text number place = codes "refused " ++ decimal number ++ codes " at " ++ decimal place
 
 -- What a call answers, in the paper's numbers: a value, or the number and the place of a refusal.
 pub data Answer (A : Type 0) : Type 0 where

@@ -1,8 +1,8 @@
 // Why a call refuses, and the papers' number and place of each reason (paper 01, 'Refusal numbers'; 17 is paper 02's, item 1).
 #![tactic(auto)]
 
-ghost use Rattle.std.specs.Prelude.{◌≡◌};
-ghost use Rattle.refusals.specs.Refusals.{number_of, place_of};
+ghost use Rattle.std.specs.Prelude.{◌≡◌, Some};
+ghost use Rattle.refusals.specs.Refusals.{number_of, place_of, refusal_text};
 
 use std::error::Error;
 use std::fmt;
@@ -68,6 +68,8 @@ impl Refusal {
 
 // As programs write it.
 impl fmt::Display for Refusal {
+    ghost output = { λ why. Some (refusal_text (number_of why) (place_of why)) };
+
     fn fmt<W: fmt::Write>(&self, f: &mut fmt::Formatter<W>) -> fmt::Result {
         let why = *self;
         write!(f, "refused {} at {}", why.number(), why.place())

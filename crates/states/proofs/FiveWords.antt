@@ -9,7 +9,7 @@ use native.Mathlib.Nat.{eq-or-lt_of_le}
 use native.Mathlib.Numerals.{add-one}
 use lib.ListN.{get_or, length, set, replicate}
 use lib.Dec.{T, ltb, eqb}
-use borrow.Author.Tests.{lt-ltb, le-ltb, eq-eqb, ne_eqb}
+use borrow.Author.Tests.{lt-ltb, le-ltb, eq-eqb, ne_eqb, eqb-true, eqb-false}
 use lib.Seq.{get_or-set_same, get_or-set_other, ext_get_or}
 use lib.Bits.{bit_or}
 use Rattle.std.specs.Prelude.{nat_eq}
@@ -18,7 +18,7 @@ use Rattle.lists.specs.Lists.{some_below}
 use Rattle.lists.proofs.Bools.{refuted, below?, equal?, some_intro, some_elim}
 use Rattle.lists.proofs.Laying.{Laying, laying_start, laying_next}
 use Rattle.states.specs.Records.{bit, at, Fit64}
-use Rattle.states.specs.inner.Words.{below_word, Below, Up, Raised, With}
+use Rattle.states.specs.inner.Words.{below_word, Below, Up, Raised, With, with_word}
 use Rattle.states.proofs.Bits.{bit_mod, bit_mod_above, bit_up, bit_up_first, bit_or_lem, bit_pow_same, bit_pow_other, bit_zero, one_shifted}
 use Rattle.states.proofs.Packing.{same_words}
 
@@ -121,36 +121,27 @@ below_bits w r t e = record { bits = λ p h. ap (λ (x : ℕ). bit x (p % 64)) (
         (λ l. bit_mod_above (get_or w (p / 64) 0) (t % 64) (p % 64) l ∙ sym (ap (λ (b : Bool). b && bit (get_or w (p / 64) 0) (p % 64)) (le-ltb p t (omega arith))))
         (below? (p % 64) (t % 64))
 
--- The words with bit p set.
-module _ (w : List ℕ) (p : ℕ) (h : p < 320) (l : length w ≡ 5) where
-  abbrev word : ℕ
-  word = bit_or (get_or w (p / 64) 0) (1 * 2 ^ (p % 64) % 2 ^ 64)
+-- The bits of words with bit p set, if `on` says so.
+pub with_bits_lem : (w r : List ℕ) (p : ℕ) (on : Bool) → ((j : ℕ) → j < 5 → get_or r j 0 ≡ with_word p on j (get_or w j 0)) → With w p on r
+unfolding at with_word
+with_bits_lem w r p on e = record { bits = λ q h. ap (λ (x : ℕ). bit x (q % 64)) (e (q / 64) (omega arith)) ∙ set q on (eqb (q / 64) (p / 64)) refl }
+  where
+    set : (q : ℕ) (a b : Bool) → eqb (q / 64) (p / 64) ≡ b
+        → bit (cond (a && eqb (q / 64) (p / 64)) (bit_or (get_or w (q / 64) 0) (2 ^ (p % 64))) (get_or w (q / 64) 0)) (q % 64) ≡ (bit (get_or w (q / 64) 0) (q % 64) || a && eqb q p)
+    set q false b d = sym (or-false (bit (get_or w (q / 64) 0) (q % 64)))
+    set q true false d =
+        ap (λ (x : Bool). bit (cond x (bit_or (get_or w (q / 64) 0) (2 ^ (p % 64))) (get_or w (q / 64) 0)) (q % 64)) d
+        ∙ sym (ap (λ (x : Bool). bit (get_or w (q / 64) 0) (q % 64) || x) (ne_eqb q p (λ g. eqb-false (q / 64) (p / 64) d (ap (λ (x : ℕ). x / 64) g))) ∙ or-false (bit (get_or w (q / 64) 0) (q % 64)))
+    set q true true d =
+        ap (λ (x : Bool). bit (cond x (bit_or (get_or w (q / 64) 0) (2 ^ (p % 64))) (get_or w (q / 64) 0)) (q % 64)) d
+        ∙ bit_or_lem (get_or w (q / 64) 0) (2 ^ (p % 64)) (q % 64)
+        ∙ ap (λ (x : Bool). bit (get_or w (q / 64) 0) (q % 64) || x) (⊎_elim (same q (eqb-true (q / 64) (p / 64) d)) (other q (eqb-true (q / 64) (p / 64) d)) (equal? (q % 64) (p % 64)))
+      where
+        same : (q : ℕ) → q / 64 ≡ p / 64 → q % 64 ≡ p % 64 → bit (2 ^ (p % 64)) (q % 64) ≡ eqb q p
+        same q g h = let e : q ≡ p = omega arith in ap (bit (2 ^ (p % 64))) h ∙ bit_pow_same (p % 64) ∙ sym (eq-eqb q p e)
 
-  same : (q : ℕ) → q / 64 ≡ p / 64 → q % 64 ≡ p % 64 → bit (2 ^ (p % 64)) (q % 64) ≡ eqb q p
-  same q g d = let e : q ≡ p = omega arith in ap (bit (2 ^ (p % 64))) d ∙ bit_pow_same (p % 64) ∙ sym (eq-eqb q p e)
-
-  other : (q : ℕ) → (q % 64 ≡ p % 64 → ⊥) → bit (2 ^ (p % 64)) (q % 64) ≡ eqb q p
-  other q n = bit_pow_other (p % 64) (q % 64) n ∙ sym (ne_eqb q p (λ d. n (ap (λ (x : ℕ). x % 64) d)))
-
-  within : (q : ℕ) → q / 64 ≡ p / 64 → bit (get_or (set w (p / 64) word) (q / 64) 0) (q % 64) ≡ (bit (get_or w (q / 64) 0) (q % 64) || eqb q p)
-  within q e =
-      ap (λ (x : ℕ). bit (get_or (set w (p / 64) word) x 0) (q % 64)) e
-      ∙ ap (λ (x : ℕ). bit x (q % 64)) (get_or-set_same w (p / 64) word 0 (omega arith))
-      ∙ bit_or_lem (get_or w (p / 64) 0) (1 * 2 ^ (p % 64) % 2 ^ 64) (q % 64)
-      ∙ ap₂ ◌||◌ (ap (λ (x : ℕ). bit (get_or w x 0) (q % 64)) (sym e))
-      (ap (λ (x : ℕ). bit x (q % 64)) (one_shifted (p % 64) (omega arith)) ∙ ⊎_elim (same q e) (other q) (equal? (q % 64) (p % 64)))
-
-  outside : (q : ℕ) → (q / 64 ≡ p / 64 → ⊥) → bit (get_or (set w (p / 64) word) (q / 64) 0) (q % 64) ≡ (bit (get_or w (q / 64) 0) (q % 64) || eqb q p)
-  outside q n =
-      ap (λ (x : ℕ). bit x (q % 64)) (get_or-set_other w (p / 64) (q / 64) word 0 n)
-      ∙ sym (ap (λ (b : Bool). bit (get_or w (q / 64) 0) (q % 64) || b) (ne_eqb q p (λ d. n (ap (λ (x : ℕ). x / 64) d))) ∙ or-false (bit (get_or w (q / 64) 0) (q % 64)))
-
-  pub with_on : With w p true (set w (p / 64) word)
-  unfolding at
-  with_on = record { bits = λ q g. ⊎_elim (within q) (outside q) (equal? (q / 64) (p / 64)) }
-
-pub with_off : (w : List ℕ) (p : ℕ) → With w p false w
-with_off w p = record { bits = λ q h. sym (or-false (at w q)) }
+        other : (q : ℕ) → q / 64 ≡ p / 64 → (q % 64 ≡ p % 64 → ⊥) → bit (2 ^ (p % 64)) (q % 64) ≡ eqb q p
+        other q g n = bit_pow_other (p % 64) (q % 64) n ∙ sym (ne_eqb q p (λ h. n (ap (λ (x : ℕ). x % 64) h)))
 
 zeros : (n j : ℕ) → get_or {A = ℕ} (replicate n 0) j 0 ≡ 0
 zeros zero j = refl

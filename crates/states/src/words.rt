@@ -6,7 +6,7 @@ ghost use Rattle.fillings.specs.PossibleStates.{next, start, unseen_times};
 ghost use Rattle.rules.specs.Evaluation.{top, alert, status};
 ghost use Rattle.fillings.specs.Flags.{flag};
 ghost use Rattle.states.specs.Records.{at, states_of, words_of};
-ghost use Rattle.states.specs.inner.Words.{below_word, Below, Up, Raised, With, Alerting, WordsUp, Joined, Filled};
+ghost use Rattle.states.specs.inner.Words.{below_word, with_word, Below, Up, Raised, With, Alerting, WordsUp, Joined, Filled};
 
 use flags::Flag;
 
@@ -70,13 +70,25 @@ fn up_one(mut w: [u64; 5]) -> [u64; 5]
     w
 }
 
-// The states with state p, if `on` says so.
+fn with_word(x: u64, j: usize, p: usize, on: bool) -> u64
+    ensures { result ≡ with_word p on j x }
+{
+    if j == p / 64 {
+        if on {
+            return x | 1 << (p % 64);
+        }
+        return x;
+    }
+    x
+}
+
+// The states with state p, if `on` says so. Word by word: a store at the place p / 64 keeps the words in memory.
 fn with_state(mut w: [u64; 5], p: usize, on: bool) -> [u64; 5]
     requires { p < 320 }
     ensures { With w p on result }
 {
-    if on {
-        w[p / 64] |= 1 << (p % 64);
+    for (j, x) in w.iter_mut().enumerate() {
+        *x = with_word(*x, j, p, on);
     }
     w
 }

@@ -1,10 +1,14 @@
 use native.Mathlib.Omega.{arith}
-use Rattle.bytes_le.proofs.Puts.{put_part, put_none}
+use Rattle.bytes_le.proofs.Puts.{put_none}
+use Rattle.bytes_le.proofs.Copying.{copying_next, copying_end}
 use Rattle.bytes_le.proofs.put_bytes.Goals as goal
 use Rattle.bytes_le.proofs.put_bytes.Goals.{else-at-buffer-via-then-at-buffer+else-bytes-buffer, else-at-buffer-via-else-at-buffer}
 
-pub returns-then-bytes-buffer : goal.returns-then-bytes-buffer
-returns-then-bytes-buffer c = put_part _ _ _ _ (omega arith) c.copy_from_slice.ensures.after
+pub loop-i-preserved : goal.loop-i-preserved
+loop-i-preserved c = copying_next _ _ _ c.loop-i.invariant c.loop-i-test.true
+
+pub returns-after-loop-i : goal.returns-after-loop-i
+returns-after-loop-i c = copying_end _ _ _ c.loop-i.invariant c.loop-i-test.false
 
 pub returns-else-at-buffer : goal.returns-else-at-buffer
 returns-else-at-buffer c =

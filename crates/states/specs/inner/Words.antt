@@ -1,5 +1,6 @@
 -- What the inner functions on five words do, bit by bit.
 use Rattle.std.specs.Prelude.{ℕ, ◌+◌, ◌-◌, ◌/◌, ◌%◌, ◌^◌, ◌≤◌, ◌<◌, ◌≡◌, Bool, false, cond, ◌&&◌, ◌||◌, List, ltb, eqb, get_or}
+use Rattle.std.specs.Int.Bits.{bit_or}
 use Rattle.states.specs.Records.{bit, at}
 
 -- Word j without the bits from t on.
@@ -19,6 +20,10 @@ pub record Up (w r : List ℕ) : Type 0 where
 pub record Raised (w : List ℕ) (on : Bool) (r : List ℕ) : Type 0 where
   pub first : at r 0 ≡ false
   pub next : (p : ℕ) → p + 1 < 320 → at r (p + 1) ≡ (on && at w p)
+
+-- Word j with bit p set, if `on` says so.
+unfoldable pub with_word : ℕ → Bool → ℕ → ℕ → ℕ
+with_word p on j x = cond (on && eqb j (p / 64)) (bit_or x (2 ^ (p % 64))) x
 
 -- The words w, with bit p set if `on` says so.
 pub record With (w : List ℕ) (p : ℕ) (on : Bool) (r : List ℕ) : Type 0 where
