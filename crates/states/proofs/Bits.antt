@@ -4,7 +4,7 @@ use mathlib.Core.Path.{◌≡◌, refl, ap, ap₂, sym, ◌∙◌}
 use mathlib.Core.Bool.{true, false, ◌||◌}
 use mathlib.Core.Logic.{⊎_elim}
 use native.Mathlib.Omega.{arith}
-use native.Mathlib.Nat.{div-eq_of_lt, mod-lt, one-mul, pow-suc, eq-or-lt_of_le, lt_of_lt_of_le, le_of_eq, le_of_lt, mod-eq_of_lt, mul_assoc}
+use native.Mathlib.Nat.{div-eq_of_lt, mod-lt, one-mul, pow-suc, eq-or-lt_of_le, div-eq_of_lt-le, lt_of_lt_of_le, le_of_eq, le_of_lt, mod-eq_of_lt, mul_assoc}
 use native.Mathlib.Numerals.{add-one}
 use lib.Dec.{eqb}
 use lib.Pow.{shr-shr, field, mod-mod-pow, pow_pos, pow-add, pow-lt, shl-shr}
@@ -125,3 +125,18 @@ bit_ones (suc k) zero h =
 bit_ones (suc k) (suc r) h =
     let e : 2 ^ suc k - 1 ≡ (2 ^ k - 1) * 2 + 1 = omega (arith, pow-suc 2 k, pow_pos k) in
     ap₂ bit e (sym (add-one r)) ∙ bit_double (2 ^ k - 1) 1 r (omega arith) ∙ bit_ones k r (omega arith)
+
+bit_top : (k w : ℕ) → 2 ^ k ≤ w → w < 2 ^ suc k → bit w k ≡ true
+unfolding bit
+bit_top k w l h =
+    let e : 2 ^ suc k ≡ 2 ^ k * 2 = pow-suc 2 k in
+    ap (λ (x : ℕ). eqb (x % 2) 1) (div-eq_of_lt-le {k = 1} (2 ^ k) (omega arith) (omega arith))
+
+-- a number that is not 0 has a bit
+pub bit_some : (k w : ℕ) → 0 < w → w < 2 ^ k → (r : ℕ) × ((r < k) × (bit w r ≡ true))
+bit_some zero w p h = absurd (omega arith)
+bit_some (suc k) w p h =
+    ⊎_elim
+    (λ l. let q : (r : ℕ) × ((r < k) × (bit w r ≡ true)) = bit_some k w p l in (q.0, (omega arith, q.1.1)))
+    (λ l. (k, (omega arith, bit_top k w l h)))
+    (below? w (2 ^ k))

@@ -15,11 +15,11 @@ use lib.Bits.{bit_or}
 use Rattle.std.specs.Prelude.{nat_eq}
 use Rattle.std.specs.Cmp.Lexicographic.{pointwise, same_text, other_text}
 use Rattle.lists.specs.Lists.{some_below}
-use Rattle.lists.proofs.Bools.{refuted, below?, equal?, some_intro, some_elim}
+use Rattle.lists.proofs.Bools.{is_true, refuted, below?, equal?, some_intro, some_elim}
 use Rattle.lists.proofs.Laying.{Laying, laying_start, laying_next}
 use Rattle.states.specs.Records.{bit, at, Fit64}
 use Rattle.states.specs.inner.Words.{below_word, Below, Up, Raised, With, with_word}
-use Rattle.states.proofs.Bits.{bit_mod, bit_mod_above, bit_up, bit_up_first, bit_or_lem, bit_pow_same, bit_pow_other, bit_zero, one_shifted}
+use Rattle.states.proofs.Bits.{bit_mod, bit_mod_above, bit_up, bit_up_first, bit_or_lem, bit_pow_same, bit_pow_other, bit_some, bit_zero}
 use Rattle.states.proofs.Packing.{same_words}
 
 -- The words below i are changed by a function of their place; the others are as they came.
@@ -158,6 +158,17 @@ some_none w z =
     let h : q.0 < 320 = q.1 in
     let e : at w q.0 ≡ false = ap (λ (x : ℕ). bit x (q.0 % 64)) (z (q.0 / 64) (omega arith)) ∙ bit_zero (q.0 % 64) in
     subst T e q.2))
+
+pub some_word : (w : List ℕ) (i : ℕ) → i < 5 → get_or w i 0 < 2 ^ 64 → (get_or w i 0 ≡ 0 → ⊥) → true ≡ some_below 320 (at w)
+unfolding at
+some_word w i h f n =
+    let b : (r : ℕ) × ((r < 64) × (bit (get_or w i 0) r ≡ true)) = bit_some 64 (get_or w i 0) (omega arith) f in
+    let r : ℕ = b.0 in
+    let l : r < 64 = b.1.0 in
+    let q : (i * 64 + r) / 64 ≡ i = omega arith in
+    let m : (i * 64 + r) % 64 ≡ r = omega arith in
+    let e : at w (i * 64 + r) ≡ true = ap (λ (x : ℕ). bit (get_or w x 0) ((i * 64 + r) % 64)) q ∙ ap (bit (get_or w i 0)) m ∙ b.1.1 in
+    sym (is_true (some_below 320 (at w)) (some_intro 320 (at w) (i * 64 + r) (omega arith) (subst T (sym e) tt)))
 
 pub raised_up : {w r : List ℕ} → Up w r → Raised w true r
 raised_up u = record { first = u.first; next = u.next }

@@ -15,7 +15,8 @@ use Rattle.rules.specs.Table.{row_at}
 use Rattle.rules.specs.Evaluation.{trips, clears, top, evaluations}
 use Rattle.fillings.specs.PossibleStates.{found, next, unseen_times}
 use Rattle.states.specs.Records.{states_of, words_of, rule_words, record_with}
-use Rattle.states.proofs.EachRule.{Moving, moving_read, moving_moved, moving_stays, moving_end}
+use Rattle.states.proofs.EachRule.{Moving, moving_length, moving_read, moving_moved, moving_stays, moving_end}
+use Rattle.states.proofs.RuleWords.{same_rule}
 use Rattle.states.specs.inner.Rules.{evaluated_words}
 use Rattle.limits.specs.Limits.{setting_of}
 use Rattle.states.specs.Steps.{moves_by, moves_at, seen_words, after_seen, evaluations_of, moves_between, unseen_words, after_unseen}
@@ -55,6 +56,12 @@ module _ (ss : List Setting) (idle tick : ℕ) (r : Readings) (ws₀ : List ℕ)
   seeing_moved ws out w v i row er g h eb b ew e o =
       moving_moved sees seen_to ws₀ ws out v i g h (sym (ap (λ (x : Row). moves_by x tick (setting_of ss i)) er) ∙ sym eb ∙ b) o
       (e ∙ ap₂ (λ (x : Row) (y : List ℕ). evaluated_words x idle r (setting_of ss i) y) er (ew ∙ moving_read sees seen_to ws₀ ws i g h))
+
+  -- a rule whose words are after its evaluation what they were
+  pub seeing_kept : (ws out w : List ℕ) (i : ℕ) (row : Row) {b : Bool} → row ≡ row_at i → Seeing ws i → i < 16 → b ≡ moves_by row tick (setting_of ss i) → b ≡ true
+      → w ≡ rule_words ws i → w ≡ evaluated_words row idle r (setting_of ss i) w → out ≡ ws → Seeing out (i + 1)
+  seeing_kept ws out w i row er g h eb b ew e o =
+      seeing_moved ws out w w i row er g h eb b ew e (o ∙ sym (same_rule ws w i (moving_length sees seen_to ws₀ ws i g) ew))
 
   pub seeing_stays : (ws out : List ℕ) (i : ℕ) (row : Row) {b : Bool} → row ≡ row_at i → Seeing ws i → i < 16 → b ≡ moves_by row tick (setting_of ss i) → b ≡ false
       → out ≡ ws → Seeing out (i + 1)

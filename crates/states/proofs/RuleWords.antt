@@ -60,3 +60,19 @@ module _ (ws w : List ℕ) (l : length ws ≡ 80) (n : length w ≡ 5) where
 
       away : (k : ℕ) → (k / 5 ≡ i → ⊥) → (k < 5 * i) ⊎ (5 * i + m ≤ k)
       away k d = ⊎_elim (λ g. inl g) (λ g. inr (⊎_elim (λ f. absurd (d (omega arith))) (λ f. f) (below? k (5 * i + m)))) (below? k (5 * i))
+
+-- A record in which one rule has the words that it had.
+pub same_rule : (ws v : List ℕ) (i : ℕ) → length ws ≡ 80 → v ≡ take 5 (drop (5 * i) ws) → record_with (λ j. eqb j i) (λ j. v) ws ≡ ws
+same_rule ws v i l e =
+    ext_get_or 0 (record_with (λ j. eqb j i) (λ j. v) ws) ws (record_length (λ j. eqb j i) (λ j. v) ws ∙ sym l)
+    (λ k g.
+    record_at_lem (λ j. eqb j i) (λ j. v) ws k (omega (arith, record_length (λ j. eqb j i) (λ j. v) ws))
+    ∙ ⊎_elim
+    (λ d.
+    let q : 5 * i + k % 5 ≡ k = omega arith in
+    ap (λ (b : Bool). cond b (get_or v (k % 5) 0) (get_or ws k 0)) (eq-eqb (k / 5) i d)
+    ∙ ap (λ (x : List ℕ). get_or x (k % 5) 0) e
+    ∙ part ws (5 * i) (k % 5) (omega arith)
+    ∙ ap (λ (x : ℕ). get_or ws x 0) q)
+    (λ n. ap (λ (b : Bool). cond b (get_or v (k % 5) 0) (get_or ws k 0)) (ne_eqb (k / 5) i n))
+    (equal? (k / 5) i))

@@ -1,26 +1,26 @@
 -- Whether words hold a set of a rule's states, as code finds it.
-use Prim.Native.Nat.{ℕ, suc, ◌+◌, ◌≤◌, ◌<◌}
-use mathlib.Core.Path.{◌≡◌, ap, sym, ◌∙◌, subst}
+use Prim.Native.Nat.{ℕ, suc, ◌+◌, ◌*◌, ◌^◌, ◌/◌, ◌%◌, ◌≤◌, ◌<◌}
+use mathlib.Core.Path.{◌≡◌, refl, ap, ap₂, sym, ◌∙◌, subst}
 use mathlib.Core.List.{List}
-use mathlib.Core.Bool.{Bool, true, false, not, ◌&&◌}
+use mathlib.Core.Bool.{Bool, true, false, not, cond, ◌&&◌, ◌||◌, and-false}
 use mathlib.Core.Logic.{⊎_elim}
 use native.Mathlib.Omega.{arith}
-use Rattle.std.specs.Prelude.{nat_eq}
-use Rattle.std.specs.Cmp.Lexicographic.{pointwise, same_text, other_text}
+use native.Mathlib.Nat.{mod-le}
 use lib.Dec.{T, ltb, eqb, ltb→lt, lt→ltb, eqb→eq}
-use lib.ListN.{length}
-use borrow.Author.Tests.{lt-ltb, le-ltb, eq-eqb, ne_eqb}
+use lib.ListN.{get_or, length}
+use borrow.Author.Tests.{lt-ltb, le-ltb, eq-eqb, ne_eqb, eqb-true, eqb-false}
 use borrow.Author.Count.{below_more}
-use Rattle.lists.specs.Lists.{some_below, every_below}
-use Rattle.lists.proofs.Bools.{and_left, and_right, both, is_true, is_false, refuted, below?, some_intro, some_elim, every_intro, every_elim}
+use Rattle.lists.specs.Lists.{tabulate, some_below, every_below}
+use Rattle.lists.proofs.Bools.{and_left, and_right, both, is_true, refuted, both_false, below?, some_intro, some_elim, every_intro, every_elim, get_d_tabulate}
 use Rattle.rules.specs.declared.Setting.{Setting}
 use Rattle.rules.specs.Evaluation.{top}
-use Rattle.states.specs.Records.{at, Fit64, rule_words}
-use Rattle.states.specs.inner.Words.{Below}
+use Rattle.states.specs.Records.{bit, at, rule_words}
+use Rattle.states.specs.inner.Words.{below_word, Below}
 use Rattle.states.specs.inner.Rules.{valid_words}
 use Rattle.limits.specs.Limits.{setting_of}
 use Rattle.states.specs.Validity.{valid_set, valid_record}
-use Rattle.states.proofs.Packing.{same_words}
+use Rattle.states.proofs.Packing.{same_bits}
+use Rattle.states.proofs.FiveWords.{below_bits, some_none, some_word}
 
 -- A state above the top.
 abbrev pub above : ℕ → List ℕ → ℕ → Bool
@@ -39,35 +39,111 @@ valid_of m w s l t none =
     subst T (none p (ltb→lt m p (and_left (ltb m p) (at w p) v)) h) (and_right (ltb m p) (at w p) v))))
     tt)
 
--- Whether words have a state, and are the same without the states above m, as code computes it.
-module _ (w cut : List ℕ) (m : ℕ) (small : m ≤ 256) (wl : length w ≡ 5) (wf : Fit64 w) (cl : length cut ≡ 5) (cf : Fit64 cut) (cu : Below w (m + 1) cut) where
-  -- no state is cut off
-  same : cut ≡ w → (p : ℕ) → m < p → p < 320 → at w p ≡ false
-  same e p l h = ap (λ (v : List ℕ). at v p) (sym e) ∙ cu.bits p h ∙ ap (λ (b : Bool). b && at w p) (le-ltb p (m + 1) (omega arith))
+below_le : (t j x : ℕ) → below_word t j x ≤ x
+unfolding below_word
+below_le t j x = go (ltb j (t / 64)) (eqb j (t / 64))
+  where
+    go : (a b : Bool) → cond a x (cond b (x % 2 ^ (t % 64)) 0) ≤ x
+    go true b = omega arith
+    go false true = mod-le x (2 ^ (t % 64))
+    go false false = omega arith
 
-  whole : T (valid_words m w) → cut ≡ w
-  whole t =
-      same_words cut w cl wl cf wf
-      (λ p h.
-      cu.bits p h
-      ∙ ⊎_elim (λ l. ap (λ (b : Bool). b && at w p) (lt-ltb p (m + 1) l))
-      (λ l.
-      ap (λ (b : Bool). b && at w p) (le-ltb p (m + 1) l)
-      ∙ sym (none_at m w p (is_false (some_below 320 (above m w)) (and_right (some_below (suc m) (at w)) (not (some_below 320 (above m w))) t)) (omega arith) h))
-      (below? p (m + 1)))
+-- The words of a set without the states above m.
+abbrev cut : List ℕ → ℕ → List ℕ
+cut w m = tabulate 5 (λ j. below_word (m + 1) j (get_or w j 0))
 
-  pub valid_checked : true ≡ some_below 320 (at w) → (b : Bool) → b ≡ pointwise nat_eq cut w → b ≡ valid_words m w
-  valid_checked s true e =
-      let d : cut ≡ w = same_text cut w e in
-      let (p, h, t) = some_elim 320 (at w) (subst T s tt) in
-      sym (is_true (valid_words m w) (valid_of m w p (⊎_elim (λ l. omega arith) (λ l. absurd (subst T (same d p (omega arith) h) t)) (below? p (m + 1))) t (same d)))
-  valid_checked s false e = sym (refuted (valid_words m w) (λ t. other_text cut w e (whole t)))
+cut_below : (w : List ℕ) (m : ℕ) → Below w (m + 1) (cut w m)
+cut_below w m = below_bits w (cut w m) (m + 1) (λ j h. get_d_tabulate 5 (λ j. below_word (m + 1) j (get_or w j 0)) 0 j h)
 
-pub invalid_none : (w : List ℕ) (m : ℕ) → m ≤ 256 → false ≡ some_below 320 (at w) → false ≡ valid_words m w
-invalid_none w m small s =
-    sym (refuted (valid_words m w) (λ t.
-    let (p, h, u) = some_elim (suc m) (at w) (and_left (some_below (suc m) (at w)) (not (some_below 320 (above m w))) t) in
-    subst T (sym s) (some_intro 320 (at w) p (omega arith) u)))
+-- A word that a cut changes has a state above.
+beyond : (w : List ℕ) (m j : ℕ) → j < 5 → get_or w j 0 < 2 ^ 64 → (below_word (m + 1) j (get_or w j 0) ≡ get_or w j 0 → ⊥)
+    → false ≡ valid_words m w
+unfolding at
+beyond w m j h fits n = go (some_below 320 (above m w)) refl
+  where
+    go : (b : Bool) → some_below 320 (above m w) ≡ b → false ≡ valid_words m w
+    go true e = sym (ap (λ (b : Bool). some_below (suc m) (at w) && not b) e ∙ and-false (some_below (suc m) (at w)))
+    go false e =
+        absurd (n (same_bits 64 (below_word (m + 1) j (get_or w j 0)) (get_or w j 0) (omega (arith, below_le (m + 1) j (get_or w j 0))) fits
+        (λ r l.
+        let q : (j * 64 + r) / 64 ≡ j = omega arith in
+        let k : (j * 64 + r) % 64 ≡ r = omega arith in
+        let p : j * 64 + r < 320 = omega arith in
+        ap (λ (x : ℕ). bit x r) (sym (get_d_tabulate 5 (λ j. below_word (m + 1) j (get_or w j 0)) 0 j h))
+        ∙ ap₂ (λ (x y : ℕ). bit (get_or (cut w m) x 0) y) (sym q) (sym k)
+        ∙ (cut_below w m).bits (j * 64 + r) p
+        ∙ same (j * 64 + r) p e
+        ∙ ap₂ (λ (x y : ℕ). bit (get_or w x 0) y) q k)))
+      where
+        same : (p : ℕ) → p < 320 → some_below 320 (above m w) ≡ false → (ltb p (m + 1) && at w p) ≡ at w p
+        same p l e =
+            ⊎_elim (λ i. ap (λ (b : Bool). b && at w p) (lt-ltb p (m + 1) i))
+            (λ i. ap (λ (b : Bool). b && at w p) (le-ltb p (m + 1) i) ∙ sym (none_at m w p e (omega arith) l))
+            (below? p (m + 1))
+
+-- The words below j of a set's five have no state from t on, and whether one has a state.
+pub record Checked (w : List ℕ) (t : ℕ) (found : Bool) (j : ℕ) : Type 0 where
+  pub within : j ≤ 5
+  pub low : (p : ℕ) → p < j → below_word t p (get_or w p 0) ≡ get_or w p 0
+  pub none : found ≡ false → (p : ℕ) → p < j → get_or w p 0 ≡ 0
+  pub some : found ≡ true → true ≡ some_below 320 (at w)
+
+module _ (w : List ℕ) (t : ℕ) where
+  pub checked_start : Checked w t false 0
+  checked_start = record {
+    within = omega arith;
+    low = λ p h. absurd (omega arith);
+    none = λ e p h. absurd (omega arith);
+    some = λ e. let z : ◌≡◌ {A = ℕ} 0 1 = cc in absurd (omega arith);
+  }
+
+  pub checked_next : (found : Bool) (j x : ℕ) → Checked w t found j → j < 5 → x ≡ get_or w j 0 → x < 2 ^ 64 → {b : Bool} → b ≡ eqb (below_word t j x) x → b ≡ true
+      → Checked w t (found || not (eqb x 0)) (j + 1)
+  checked_next found j x c h e fits q u = record {
+    within = omega arith;
+    low = below_more _ j c.low (ap (below_word t j) (sym e) ∙ eqb-true (below_word t j x) x (sym q ∙ u) ∙ e);
+    none = λ n. let (f, z) = both_false found (not (eqb x 0)) n in below_more _ j (c.none f) (sym e ∙ zero_word (eqb x 0) refl z);
+    some = λ n. either (eqb x 0) refl n;
+  }
+    where
+      zero_word : (b : Bool) → eqb x 0 ≡ b → not b ≡ false → x ≡ 0
+      zero_word true q z = eqb-true x 0 q
+      zero_word false q z = let y : ◌≡◌ {A = ℕ} 0 1 = cc in absurd (omega arith)
+
+      either : (b : Bool) → eqb x 0 ≡ b → (found || not (eqb x 0)) ≡ true → true ≡ some_below 320 (at w)
+      either true z q = c.some (or_no found (not (eqb x 0)) (ap not z) q)
+        where
+          or_no : (a b : Bool) → b ≡ false → (a || b) ≡ true → a ≡ true
+          or_no true b e q = refl
+          or_no false b e q = let y : ◌≡◌ {A = ℕ} 0 1 = cc in absurd (omega arith)
+      either false z q = some_word w j h (subst (λ (y : ℕ). y < 2 ^ 64) e fits) (λ d. eqb-false x 0 z (e ∙ d))
+
+  pub checked_stop : (m : ℕ) → t ≡ m + 1 → (j x : ℕ) → j < 5 → x ≡ get_or w j 0 → x < 2 ^ 64 → {b : Bool} → b ≡ eqb (below_word t j x) x → b ≡ false
+      → false ≡ valid_words m w
+  checked_stop m et j x h e fits q u =
+      beyond w m j h (subst (λ (y : ℕ). y < 2 ^ 64) e fits)
+      (λ d. eqb-false (below_word t j x) x (sym q ∙ u) (ap₂ (λ (a y : ℕ). below_word a j y) et e ∙ d ∙ sym e))
+
+  pub checked_end : (m : ℕ) → t ≡ m + 1 → m ≤ 256 → (found : Bool) (j : ℕ) → Checked w t found j → 5 ≤ j → found ≡ valid_words m w
+  checked_end m et small found j c h = go found refl
+    where
+      all : Below w t w
+      all = below_bits w w t (λ p l. sym (c.low p (omega arith)))
+
+      low : (p : ℕ) → p < 320 → T (at w p) → p < t
+      low p l u = ltb→lt p t (and_left (ltb p t) (at w p) (subst T (all.bits p l) u))
+
+      go : (b : Bool) → found ≡ b → found ≡ valid_words m w
+      go true e =
+          let (s, l, v) = some_elim 320 (at w) (subst T (c.some e) tt) in
+          let i = low s l v in
+          e ∙ sym (is_true (valid_words m w) (valid_of m w s (omega arith) v (λ p k g. refuted (at w p) (λ u. let d = low p g u in omega arith))))
+      go false e =
+          e
+          ∙ sym (refuted (valid_words m w) (λ v.
+          let (s, l, u) = some_elim (suc m) (at w) (and_left (some_below (suc m) (at w)) (not (some_below 320 (above m w))) v) in
+          let i : s < 320 = omega arith in
+          subst T (sym (some_none w (λ p d. c.none e p (omega arith)))) (some_intro 320 (at w) s i u)))
 
 -- A valid record is eighty words long, and its sets are valid.
 module _ (ss : List Setting) (ws : List ℕ) (t : T (valid_record ss ws)) where
@@ -86,9 +162,9 @@ pub record AllValid (ss : List Setting) (ws : List ℕ) (i : ℕ) : Type 0 where
   pub done : (j : ℕ) → j < i → T (valid_set (setting_of ss j) j ws)
 
 module _ (ss : List Setting) (ws : List ℕ) where
-  -- whether a rule is valid, from words that were loaded
-  pub rule_valid : (v w : List ℕ) (i : ℕ) (b : Bool) → b ≡ valid_words (top (setting_of ss i).time) w → w ≡ rule_words v i → v ≡ ws → b ≡ valid_set (setting_of ss i) i ws
-  rule_valid v w i b e d q = e ∙ ap (valid_words (top (setting_of ss i).time)) (d ∙ ap (λ (u : List ℕ). rule_words u i) q)
+  -- whether a rule is valid, from words that are the record's
+  pub rule_valid : (v : List ℕ) (i : ℕ) (b : Bool) → b ≡ valid_set (setting_of ss i) i v → v ≡ ws → b ≡ valid_set (setting_of ss i) i ws
+  rule_valid v i b e q = e ∙ ap (valid_set (setting_of ss i) i) q
 
   pub all_start : length ws ≡ 80 → AllValid ss ws 0
   all_start l = record { within = omega arith; long = l; done = λ j h. absurd (omega arith) }

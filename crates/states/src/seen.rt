@@ -1,5 +1,5 @@
 // A seen tick.
-ghost use Rattle.std.specs.Prelude.{◌≡◌, ◌<◌};
+ghost use Rattle.std.specs.Prelude.{◌≡◌, ◌<◌, unwrap_or};
 ghost use Rattle.states.specs.Steps.{moves_by, after_seen};
 ghost use Rattle.states.specs.inner.Rules.{evaluated_words};
 
@@ -14,15 +14,21 @@ fn moves_by(row: Row, tick: u32, setting: Setting) -> bool
     setting.time != 0 && rules::evaluated_at(row, tick)
 }
 
-// The words of a rule that is switched on, after an evaluation. One at 0 alone that does not trip is left as it is.
-fn evaluated(w: [u64; 5], row: Row, setting: Setting, idle: u16, readings: Readings) -> [u64; 5]
+// The words of a rule that is switched on, after an evaluation, or none where they stay: one at 0 alone that does not trip.
+fn evaluated(
+    w: [u64; 5],
+    row: Row,
+    setting: Setting,
+    idle: u16,
+    readings: Readings,
+) -> Option<[u64; 5]>
     requires { 0 < setting.time }
-    ensures { result ≡ evaluated_words row idle readings setting w }
+    ensures { unwrap_or result w ≡ evaluated_words row idle readings setting w }
 {
     let top = top_for(setting.time);
     let trips = rules::meets_threshold(row, idle, setting, readings);
     if !trips && at_zero(w) {
-        return w;
+        return None;
     }
     let clears = rules::meets_recovery(row, setting, readings);
     let moves = Moves {
@@ -31,7 +37,7 @@ fn evaluated(w: [u64; 5], row: Row, setting: Setting, idle: u16, readings: Readi
         leave: clears,
         stay: !clears,
     };
-    moved(w, top, moves)
+    Some(moved(w, top, moves))
 }
 
 // Moves all rules by a seen tick.
@@ -49,7 +55,9 @@ pub(crate) fn see(
         let row = table.of[i];
         if moves_by(row, tick, *setting) {
             let w = load(words, i);
-            store(words, i, evaluated(w, row, *setting, idle, readings));
+            if let Some(v) = evaluated(w, row, *setting, idle, readings) {
+                store(words, i, v);
+            }
         }
     }
 }

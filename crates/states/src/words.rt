@@ -35,7 +35,7 @@ fn test(w: [u64; 5], p: usize) -> bool
     (w[p / 64] >> (p % 64)) % 2 == 1
 }
 
-fn below_word(x: u64, j: usize, t: usize) -> u64
+pub(crate) fn below_word(x: u64, j: usize, t: usize) -> u64
     ensures { result ≡ below_word t j x }
 {
     if j < t / 64 {

@@ -1,25 +1,25 @@
-use Prim.Native.Nat.{ℕ}
-use mathlib.Core.Path.{ap, sym, ◌∙◌}
+use Prim.Native.Nat.{ℕ, ◌+◌, ◌*◌, ◌≤◌}
+use mathlib.Core.Path.{sym, ap, subst}
 use borrow.Author.Rules.{rules}
-use lib.ListN.{get_or}
-use mir.Val.{Fits}
-use mir.Syntax.{w64}
-use Rattle.states.specs.inner.Rules.{valid_words}
-use Rattle.states.proofs.ValidWords.{valid_checked, invalid_none}
+use Rattle.rules.specs.Evaluation.{top}
+use Rattle.states.proofs.RuleWords.{part}
+use Rattle.states.proofs.ValidWords.{checked_start, checked_next, checked_stop, checked_end}
 use Rattle.states.proofs.validity.valid_rule.Goals as goal
 
-fits : (c : goal.After-same) (j : ℕ) → Fits w64 (get_or c.args.w j 0)
-fits c j = search rules
+pub loop-j-init : goal.loop-j-init
+loop-j-init c = checked_start _ _
 
-below_fits : (c : goal.After-same) (j : ℕ) → Fits w64 (get_or c.below.result j 0)
-below_fits c j = search rules
+pub loop-j-preserved : goal.loop-j-preserved
+loop-j-preserved c = let a = c.args in
+    checked_next _ _ c.loop-j.found c.loop-j.j _ c.loop-j.invariant c.loop-j-test.true (sym (part a.words.now (5 * a.i) c.loop-j.j c.loop-j-test.true)) (search rules)
+    c.ends_below.ensures c.if-not-ends_below.false
 
-pub returns-then-some : goal.returns-then-some
-returns-then-some c =
-    valid_checked c.args.w c.below.result c.top_for-top.result c.top_for-top.ensures.1 (search rules) (λ j. (fits c j).fits) (search rules) (λ j. (below_fits c j).fits) c.below.ensures
-    (sym c.if-some.true ∙ c.some.ensures) c.same.result c.same.ensures
-    ∙ ap (λ (m : ℕ). valid_words m c.args.w) c.top_for-top.ensures.0
+pub returns-then-not-ends_below : goal.returns-then-not-ends_below
+returns-then-not-ends_below c = let a = c.args in
+    checked_stop _ _ (top a.setting.time) (ap (λ (m : ℕ). m + 1) c.top_for-end.ensures.0) c.loop-j.j _ c.loop-j-test.true
+    (sym (part a.words.now (5 * a.i) c.loop-j.j c.loop-j-test.true)) (search rules) c.ends_below.ensures c.if-not-ends_below.true
 
-pub returns-else-some : goal.returns-else-some
-returns-else-some c = let top = c.top_for-top in
-    c.if-some.false ∙ invalid_none c.args.w top.result top.ensures.1 (sym c.if-some.false ∙ c.some.ensures) ∙ ap (λ (m : ℕ). valid_words m c.args.w) top.ensures.0
+pub returns : goal.returns
+returns c = let a = c.args in
+    let top-is = c.top_for-end.ensures in
+    checked_end _ _ (top a.setting.time) (ap (λ (m : ℕ). m + 1) top-is.0) (subst (λ (m : ℕ). m ≤ 256) top-is.0 top-is.1) c.loop-j.found c.loop-j.j c.loop-j.invariant c.loop-j-test.false
